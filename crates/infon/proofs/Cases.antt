@@ -1,0 +1,129 @@
+-- 01, "From the desk, on both sides": the starred cases as one table. A row that is wrong is refused at its own place.
+-- Assumes nothing.
+use Prim.Native.Nat.{ℕ, zero, suc, _+_, _/_, _%_, _^_}
+use Prim.Native.String.{String}
+use mathlib.Core.Path.{_≡_, refl}
+use mathlib.Core.Bool.{Bool, true}
+use mathlib.Core.List.{List, [], _∷_, _++_, map}
+use lib.ListN.{length, take, drop, replicate}
+use Rattle.infon.specs.declared.Answer.{Answer}
+use Rattle.infon.specs.declared.Answer.the-variants.{No, Yes}
+use Rattle.infon.specs.declared.Report.{Report}
+use Rattle.infon.specs.Bytes
+use Rattle.infon.specs.Formula
+use Rattle.infon.specs.Policy
+use Rattle.infon.specs.Listing
+use Rattle.infon.specs.Journal
+use Rattle.infon.specs.Run
+use Rattle.infon.specs.Run.{Outcome}
+
+-- A row of the table. `asked`: run from an empty journal to the end, the file's queries get these answers. `listed`: the file's
+-- list is spelled so. `run-on`: over these journal bytes a run to the end keeps and adds so many records and leaves these bytes.
+pub data Row : Type 0 where
+  asked : String → List Answer → Row
+  listed : String → List String → Row
+  run-on : String → List ℕ → ℕ → ℕ → List ℕ → Row
+
+-- Both buffers are longer than what stands in them; the bytes behind are none that a record or an answer has.
+unfoldable pub filled : ℕ → List ℕ → List ℕ
+filled size front = front ++ drop (length front) (replicate size 0xEE)
+
+-- A limit that no row reaches.
+unfoldable pub enough : ℕ
+enough = 20
+
+unfoldable pub outcome : String → List ℕ → Outcome
+unfolding Bytes.bytes Bytes.lineFeed Bytes.space Bytes.alike Bytes.every Bytes.some-of Bytes.first-of Formula.isNameByte Formula.isName Formula.isNamed Formula.letterOf Formula.words Formula.joined Formula.spelling Formula.onto Formula.tokens Formula.joinTwo Formula.quote Formula.takeWord Formula.takeNext Formula.readWords Formula.onlyOne Formula.formulaOf Formula.sameTold Formula.sameQuotation Formula.same Formula.nodes Formula.depth Policy.cut Policy.placed Policy.linesOf Policy.says Policy.behind Policy.unended Policy.read Policy.sentenceOf Policy.isSome Policy.isWellFormed Policy.entry Policy.entriesFrom Policy.entriesOf Policy.formulaIn Policy.hypothesesOf Policy.queriesOf Policy.andThen Policy.when Policy.mostBytes Policy.code1 Policy.code2From Policy.code2 Policy.mostNodes Policy.code3From Policy.code3 Policy.mostDepth Policy.code4 Listing.wrap Listing.weakerTold Listing.inside Listing.insideEach Listing.weaker Listing.weakened Listing.local Listing.isListed Listing.enlist Listing.listFrom Listing.listOf Listing.mostListed Listing.code5From Listing.code5 Journal.shapeUnder Journal.shapeOf Journal.weakenedUnder Journal.weakenings Journal.isTruth Journal.isLeft Journal.isRight Journal.areBoth Journal.isUpper Journal.isLower Journal.numbered Journal.gives Journal.isRecorded Journal.premisesIn Journal.isGood Journal.recordBytes Journal.noPremise Journal.ruleOf Journal.firstPremise Journal.secondPremise Journal.twoBytes Journal.spelled Journal.spelledAll Journal.alone Journal.withOne Journal.wayOf Journal.recordFor Journal.numberAt Journal.decoded Journal.wholeRecords Journal.followed Journal.onlyGood Journal.keptAfter Journal.keptOf Journal.numbersFrom Journal.eachPair Journal.allWays Journal.recordsFor Journal.allRecords Journal.next Journal.hasNone Journal.isFinished Journal.grown Run.answerByte Run.answerOf Run.isAnswered Run.answersOf Run.fileVerdict Run.code6 Run.code7 Run.code8 Run.code9 Run.refusal Run.written Run.success Run.settled Run.run
+outcome file used = Run.run (Bytes.bytes file) (filled 72 used) (length used) enough (filled 5 [])
+
+unfoldable pub ended : ℕ → ℕ → List ℕ → Report
+ended kept added after = record { code = 0; place = 0; kept = kept; added = added; finished = true; used = length after }
+
+abbrev pub Holds : Row → Type 0
+Holds (asked file answers) =
+    (outcome file [] .report .finished ≡ true) × (outcome file [] .answers ≡ filled 5 (map Run.answerByte answers))
+Holds (listed file fs) = map Formula.spelling (Listing.listOf (Policy.entriesOf (Bytes.bytes file))) ≡ map Bytes.bytes fs
+Holds (run-on file used kept added after) =
+    (outcome file used .report ≡ ended kept added after) × (outcome file used .journal ≡ filled 72 after)
+
+abbrev pub Each : List Row → Type 0
+Each [] = Unit {0}
+Each (row ∷ rest) = Holds row × Each rest
+
+-- the bytes of a number, the highest first
+unfoldable pub highFirst : ℕ → ℕ → List ℕ
+highFirst zero n = []
+highFirst (suc k) n = n / 256 ^ k % 256 ∷ highFirst k n
+
+unfoldable pub rows : List ℕ → List ℕ
+rows [] = []
+rows (n ∷ rest) = highFirst 9 n ++ rows rest
+
+-- Case 2 and its four records, as 01 prints them.
+abbrev pub case2 : String
+case2 = "H > S bank paid paid\nH S bank paid\nQ paid\nQ P bank paid\nQ S bank lien\n"
+
+abbrev pub r1 : ℕ
+r1 = 0x4C51_01_0000_FFFF_FFFF
+
+abbrev pub r2 : ℕ
+r2 = 0x4C51_01_0001_FFFF_FFFF
+
+abbrev pub r3 : ℕ
+r3 = 0x4C51_03_0002_0001_FFFF
+
+abbrev pub r4 : ℕ
+r4 = 0x4C51_07_0003_0001_0000
+
+unfoldable pub whole : List ℕ
+whole = rows (r1 ∷ (r2 ∷ (r3 ∷ (r4 ∷ []))))
+
+unfoldable pub exchanged : List ℕ
+exchanged = rows (r2 ∷ (r1 ∷ (r3 ∷ (r4 ∷ []))))
+
+unfoldable pub table : List Row
+table =
+    run-on "" [] 0 0 [] ∷
+    (asked case2 (Yes ∷ (Yes ∷ (No ∷ []))) ∷
+    (asked "Q S a T\n" (Yes ∷ []) ∷
+    (asked "H P a b\nQ S a b\n" (No ∷ []) ∷
+    (asked "H S a b\nQ P a b\n" (Yes ∷ []) ∷
+    (asked "H b\nQ > c b\n" (Yes ∷ []) ∷
+    (asked "Q > b b\n" (No ∷ []) ∷
+    (asked "H > b c\nH > c d\nQ > b d\n" (No ∷ []) ∷
+    (asked "H + S a b S a c\nQ S a + b c\n" (Yes ∷ []) ∷
+    (asked "H S a > b c\nH P a b\nQ P a c\nQ S a c\n" (Yes ∷ (No ∷ [])) ∷
+    (asked "H P a S c b\nQ S a P c b\n" (No ∷ []) ∷
+    (listed case2 ("> S bank paid paid" ∷ ("S bank paid" ∷ ("P bank paid" ∷ ("paid" ∷ ("S bank lien" ∷ ("P bank lien" ∷ [])))))) ∷
+    (run-on case2 [] 0 4 whole ∷
+    (run-on case2 (take 20 whole) 2 2 whole ∷
+    (run-on case2 exchanged 4 0 exchanged ∷
+    (run-on case2 (rows (r4 ∷ [])) 0 4 whole ∷ [])))))))))))))))
+
+pub every-row : Each table
+unfolding table outcome filled enough ended rows highFirst whole exchanged Run.answerByte
+every-row = (
+  (refl, refl),
+  (
+    (refl, refl),
+    (
+      (refl, refl),
+      (
+        (refl, refl),
+        (
+          (refl, refl),
+          (
+            (refl, refl),
+            (
+              (refl, refl),
+              (
+                (refl, refl),
+                ((refl, refl), ((refl, refl), ((refl, refl), (refl, ((refl, refl), ((refl, refl), ((refl, refl), ((refl, refl), tt)))))))),
+              ),
+            ),
+          ),
+        ),
+      ),
+    ),
+  ),
+)

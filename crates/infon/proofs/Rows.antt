@@ -1,0 +1,42 @@
+-- Rows and tests: `every`, `some-of` and `first-of` against membership, and tests that hold together.
+-- Assumes nothing.
+use Prim.Native.Nat.{ℕ}
+use mathlib.Core.Path.{_≡_, refl, sym, _∙_, ap, subst}
+use mathlib.Core.Logic.{_⊎_, inl, inr}
+use mathlib.Core.Bool.{Bool, true, false, cond, _&&_, _||_, not, false≢true, true≢false}
+use mathlib.Core.Option.{Option, none, some}
+use mathlib.Core.List.{List, [], _∷_, _++_, map, List·Memᴰ, List·Memᴰ·not-nil, List·Memᴰ·cases-cons, Memᴰ·cast}
+use mathlib.Core.List
+use lib.Dec.{eqb}
+use borrow.Author.Tests.{eqb-true, eq-eqb}
+use Rattle.infon.specs.Bytes.{alike, every, some-of, first-of}
+
+pub and-true : (a b : Bool) → a && b ≡ true → (a ≡ true) × (b ≡ true)
+and-true true b h = (refl, h)
+and-true false b h = absurd (false≢true h)
+
+pub true-and : {a b : Bool} → a ≡ true → b ≡ true → a && b ≡ true
+true-and {a} {b} p q = rw p q
+
+pub or-true : (a b : Bool) → a || b ≡ true → (a ≡ true) ⊎ (b ≡ true)
+or-true true b h = inl refl
+or-true false b h = inr h
+
+-- a test is passed or not
+pub decided : (b : Bool) → (b ≡ true) ⊎ (b ≡ false)
+decided true = inl refl
+decided false = inr refl
+
+pub alike-refl : (s : List ℕ) → alike s s ≡ true
+unfolding alike
+alike-refl [] = refl
+alike-refl (a ∷ s) = true-and (eq-eqb a a refl) (alike-refl s)
+
+pub alike-eq : (s t : List ℕ) → alike s t ≡ true → s ≡ t
+unfolding alike
+alike-eq [] [] h = refl
+alike-eq [] (b ∷ t) h = absurd (false≢true h)
+alike-eq (a ∷ s) [] h = absurd (false≢true h)
+alike-eq (a ∷ s) (b ∷ t) h =
+    let both = and-true (eqb a b) (alike s t) h in
+    λ i. eqb-true a b (both .0) i ∷ alike-eq s t (both .1) i

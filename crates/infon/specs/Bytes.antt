@@ -1,0 +1,45 @@
+-- Bytes and rows: what the other files take for granted.
+use Prim.Native.Nat.{ℕ}
+use Prim.Native.String.{String, [] as none-left, _∷_ as _then_}
+use Prim.Native.Char.{Char, code}
+use mathlib.Core.Bool.{Bool, true, false, cond, _&&_, _||_}
+use mathlib.Core.Option.{Option, none, some}
+use mathlib.Core.List.{List, [], _∷_}
+use lib.Dec.{eqb}
+
+-- an ASCII text as its bytes, so that a definition can show the letters that it means
+unfoldable pub bytes : String → List ℕ
+bytes none-left = []
+bytes (c then s) = code c ∷ bytes s
+
+-- the two bytes that separate lines and tokens
+unfoldable pub lineFeed : ℕ
+lineFeed = 10
+
+unfoldable pub space : ℕ
+space = 32
+
+-- two rows of bytes are alike
+unfoldable pub alike : List ℕ → List ℕ → Bool
+alike [] [] = true
+alike [] (b ∷ t) = false
+alike (a ∷ s) [] = false
+alike (a ∷ s) (b ∷ t) = eqb a b && alike s t
+
+module _ {A : Type 0} where
+  -- every element of the row passes the test
+  unfoldable pub every : (A → Bool) → List A → Bool
+  every test [] = true
+  every test (x ∷ xs) = test x && every test xs
+
+  -- some element of the row passes the test
+  unfoldable pub some-of : (A → Bool) → List A → Bool
+  some-of test [] = false
+  some-of test (x ∷ xs) = test x || some-of test xs
+
+  -- the first element of the row that passes the test, if any
+  unfoldable pub first-of : (A → Bool) → List A → Option A
+  first-of test [] = none
+  first-of test (x ∷ xs) =
+      let later = first-of test xs in
+      cond (test x) (some x) later

@@ -1,0 +1,8 @@
+-- The paper as definitions, in its order. Each file says which part it renders.
+pub mod Bytes
+pub mod Formula
+pub mod Policy
+pub mod Listing
+pub mod Calculus
+pub mod Journal
+pub mod Run

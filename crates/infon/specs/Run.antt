@@ -1,0 +1,112 @@
+-- 01, "The journal" (a run and its answers) and "Codes on the board".
+use Prim.Native.Nat.{ℕ, _+_, _*_}
+use mathlib.Core.Bool.{Bool, true, false}
+use mathlib.Core.List.{List, [], _∷_, _++_, map}
+use lib.ListN.{length, take, drop}
+use lib.Dec.{ltb}
+use Rattle.infon.specs.declared.Record.{Record}
+use Rattle.infon.specs.declared.Answer.{Answer}
+use Rattle.infon.specs.declared.Answer.the-variants.{No, Yes, Open}
+use Rattle.infon.specs.declared.Report.{Report}
+use Rattle.infon.specs.Bytes.{some-of}
+use Rattle.infon.specs.Formula.{Formula, same}
+use Rattle.infon.specs.Policy.{Entry, entriesOf, hypothesesOf, queriesOf, Verdict, passed, refused, andThen, when, code1, code2, code3, code4}
+use Rattle.infon.specs.Listing.{listOf, code5}
+use Rattle.infon.specs.Journal.{numbered, recordBytes, spelledAll, keptOf, grown, isFinished}
+
+-- "An answer is yes (byte 1), no (byte 0) or open (byte 2)"
+unfoldable pub answerByte : Answer → ℕ
+answerByte No = 0
+answerByte Yes = 1
+answerByte Open = 2
+
+-- "Yes: recorded. No: not recorded and the journal finished. Open: not recorded and not finished."
+unfoldable pub answerOf : Bool → Bool → Answer
+answerOf true finished = Yes
+answerOf false true = No
+answerOf false false = Open
+
+unfoldable pub isAnswered : List Formula → List Record → Formula → Bool
+isAnswered fs done x = some-of (λ (r : Record). same x (numbered fs (r .formula))) done
+
+unfoldable pub answersOf : List Formula → List Formula → List Record → List Formula → List Answer
+answersOf hyps fs done queries = map (λ (x : Formula). answerOf (isAnswered fs done x) (isFinished hyps fs done)) queries
+
+-- "A file is accepted when none of the codes about the file alone, here 1 to 5, applies."
+unfoldable pub fileVerdict : List ℕ → Verdict
+fileVerdict file =
+    let entries = entriesOf file in
+    andThen (code1 file) (andThen (code2 file) (andThen (code3 entries) (andThen (code4 entries) (code5 entries))))
+
+-- 6: "journal buffer shorter than 9 × L"
+unfoldable pub code6 : List Formula → List ℕ → Verdict
+code6 fs journal = when (ltb (length journal) (recordBytes * length fs)) 6 0
+
+-- 7: "used length greater than the journal buffer"
+unfoldable pub code7 : List ℕ → ℕ → Verdict
+code7 journal used = when (ltb (length journal) used) 7 0
+
+-- 8: "answer buffer shorter than the number of queries"
+unfoldable pub code8 : List Formula → List ℕ → Verdict
+code8 queries answers = when (ltb (length answers) (length queries)) 8 0
+
+-- 9: "a record is due and the buffer has no room for it"
+unfoldable pub code9 : List Record → List Record → List ℕ → Verdict
+code9 kept added journal = when (ltb (length journal) (recordBytes * (length kept + length added))) 9 0
+
+-- what a call leaves: its report, and both buffers
+pub record Outcome : Type 0 where
+  pub report : Report
+  pub journal : List ℕ
+  pub answers : List ℕ
+
+-- "A refusal returns its code and place, kept 0, added 0, not finished, and the used length as it was given. Journal and answer
+-- buffers stay unchanged."
+unfoldable pub refusal : ℕ → ℕ → ℕ → List ℕ → List ℕ → Outcome
+refusal code place used journal answers =
+    record {
+      report = record { code = code; place = place; kept = 0; added = 0; finished = false; used = used };
+      journal = journal;
+      answers = answers;
+    }
+
+-- new bytes from a place of a buffer on; the others stay as they were
+unfoldable pub written : List ℕ → ℕ → List ℕ → List ℕ
+written buffer at new = take at buffer ++ (new ++ drop (at + length new) buffer)
+
+-- "The run adds the smaller of n and missing, each the next one, right after the kept part. It returns code 0, place 0, the
+-- records kept, the records added, whether the journal is finished, and the new used length, nine times the sum of kept and
+-- added. Later journal bytes stay as they were." "Answer bytes beyond the last query stay as they were."
+unfoldable pub success : List Formula → List Formula → List Formula → List Record → List Record → List ℕ → List ℕ → Outcome
+success hyps fs queries kept added journal answers =
+    record {
+      report =
+          record {
+            code = 0;
+            place = 0;
+            kept = length kept;
+            added = length added;
+            finished = isFinished hyps fs (kept ++ added);
+            used = recordBytes * (length kept + length added);
+          };
+      journal = written journal (recordBytes * length kept) (spelledAll added);
+      answers = written answers 0 (map answerByte (answersOf hyps fs (kept ++ added) queries));
+    }
+
+unfoldable pub settled : Verdict → ℕ → List ℕ → List ℕ → Outcome → Outcome
+settled passed used journal answers outcome = outcome
+settled (refused code place) used journal answers outcome = refusal code place used journal answers
+
+-- "A run takes the file, the journal buffer, its used length, a limit n and the answer buffer."
+unfoldable pub run : List ℕ → List ℕ → ℕ → ℕ → List ℕ → Outcome
+run file journal used limit answers =
+    let entries = entriesOf file in
+    let hyps = hypothesesOf entries in
+    let queries = queriesOf entries in
+    let fs = listOf entries in
+    let kept = keptOf hyps fs journal used in
+    let added = grown hyps fs kept limit in
+    settled
+    (andThen (fileVerdict file)
+    (andThen (code6 fs journal) (andThen (code7 journal used) (andThen (code8 queries answers) (code9 kept added journal)))))
+    used journal answers (success hyps fs queries kept added journal answers)

@@ -1,0 +1,37 @@
+// The paper: its definitions stand in specs/, what is proved of them in proofs/. Here are only the types of which both the
+// definitions and the code speak.
+
+// The eight ways to a record, rules 1 to 8 in the table's order: each with the numbers of the premises that it has.
+pub enum Way {
+    Hypothesis,
+    Given,
+    Weaken(usize),
+    Left(usize),
+    Right(usize),
+    Both(usize, usize),
+    Apply(usize, usize),
+    Attach(usize),
+}
+
+// A record: the number of the formula that it is for, and the way to it.
+pub struct Record {
+    pub formula: usize,
+    pub way: Way,
+}
+
+// The answer to a query.
+pub enum Answer {
+    No,
+    Yes,
+    Open,
+}
+
+// What a run returns.
+pub struct Report {
+    pub code: usize,
+    pub place: usize,
+    pub kept: usize,
+    pub added: usize,
+    pub finished: bool,
+    pub used: usize,
+}
