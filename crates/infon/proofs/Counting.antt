@@ -15,11 +15,11 @@ unfoldable pub countOf : (ℕ → Bool) → List ℕ → ℕ
 countOf test [] = 0
 countOf test (n ∷ rest) = cond (test n) (suc (countOf test rest)) (countOf test rest)
 
-count-passed : (test : ℕ → Bool) (n : ℕ) (rest : List ℕ) → test n ≡ true → countOf test (n ∷ rest) ≡ suc (countOf test rest)
+pub count-passed : (test : ℕ → Bool) (n : ℕ) (rest : List ℕ) → test n ≡ true → countOf test (n ∷ rest) ≡ suc (countOf test rest)
 unfolding countOf
 count-passed test n rest h = rw h
 
-count-failed : (test : ℕ → Bool) (n : ℕ) (rest : List ℕ) → test n ≡ false → countOf test (n ∷ rest) ≡ countOf test rest
+pub count-failed : (test : ℕ → Bool) (n : ℕ) (rest : List ℕ) → test n ≡ false → countOf test (n ∷ rest) ≡ countOf test rest
 unfolding countOf
 count-failed test n rest h = rw h
 

@@ -1,7 +1,14 @@
 pub mod Cases
 pub mod Rows
 pub mod Same
+pub mod Prefixes
+pub mod Listed
 pub mod Locality
 pub mod Counting
 pub mod Ascending
 pub mod Least
+pub mod Codec
+pub mod Grown
+pub mod Sound
+pub mod Finished
+pub mod Missing

@@ -2,10 +2,11 @@
 -- Assumes nothing.
 use Prim.Native.Nat.{ℕ}
 use mathlib.Core.Path.{_≡_, refl, sym, _∙_, ap, subst}
-use mathlib.Core.Logic.{_⊎_, inl, inr}
+use mathlib.Core.Logic.{_⊎_, inl, inr, ⊎-elim}
 use mathlib.Core.Bool.{Bool, true, false, cond, _&&_, _||_, not, false≢true, true≢false}
 use mathlib.Core.Option.{Option, none, some}
 use mathlib.Core.List.{List, [], _∷_, _++_, map, List·Memᴰ, List·Memᴰ·not-nil, List·Memᴰ·cases-cons, Memᴰ·cast}
+use mathlib.Core.List.{List·Memᴰ·head, List·Memᴰ·tail}
 use mathlib.Core.List
 use lib.Dec.{eqb}
 use borrow.Author.Tests.{eqb-true, eq-eqb}
@@ -21,6 +22,10 @@ true-and {a} {b} p q = rw p q
 pub or-true : (a b : Bool) → a || b ≡ true → (a ≡ true) ⊎ (b ≡ true)
 or-true true b h = inl refl
 or-true false b h = inr h
+
+pub true-or : (a : Bool) {b : Bool} → b ≡ true → a || b ≡ true
+true-or true h = refl
+true-or false h = h
 
 -- a test is passed or not
 pub decided : (b : Bool) → (b ≡ true) ⊎ (b ≡ false)
@@ -40,3 +45,23 @@ alike-eq (a ∷ s) [] h = absurd (false≢true h)
 alike-eq (a ∷ s) (b ∷ t) h =
     let both = and-true (eqb a b) (alike s t) h in
     λ i. eqb-true a b (both .0) i ∷ alike-eq s t (both .1) i
+
+-- what is found in a row is found in it behind one more element
+pub found-later : {A : Type 0} {P : A → Type 0} {first : A} {xs : List A} → (x : A) × (List·Memᴰ x xs × P x)
+    → (x : A) × (List·Memᴰ x (first ∷ xs) × P x)
+found-later found = (found .0, (List·Memᴰ·tail (found .1 .0), found .1 .1))
+
+module _ {A : Type 0} (test : A → Bool) where
+  pub some-of-witness : (xs : List A) → some-of test xs ≡ true → (x : A) × (List·Memᴰ x xs × (test x ≡ true))
+  unfolding some-of
+  some-of-witness [] h = absurd (false≢true h)
+  some-of-witness (x ∷ xs) h =
+      ⊎-elim (λ here. (x, (List·Memᴰ·head refl, here)))
+      (λ later. found-later (some-of-witness xs later))
+      (or-true (test x) (some-of test xs) h)
+
+  pub witness-some-of : {x : A} {xs : List A} → List·Memᴰ x xs → test x ≡ true → some-of test xs ≡ true
+  unfolding some-of
+  witness-some-of (List·Memᴰ·head e) h = rw (← e, h)
+  witness-some-of (List·Memᴰ·tail {x = first} {xs = xs} m) h =
+      true-or (test first) (witness-some-of m h)

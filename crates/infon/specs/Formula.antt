@@ -17,7 +17,8 @@ pub record Quotation : Type 0 where
   pub told : Told
   pub principal : List ℕ
 
--- the formulas of the language, a row of the spelling table each (`S` and `P` are one row here)
+-- formulas, a row of the spelling table each (`S` and `P` are one row here); those of the language are the ones whose names
+-- are names, `isNamed` below
 pub data Formula : Type 0 where
   True : Formula
   name : List ℕ → Formula
@@ -32,7 +33,7 @@ isNameByte b = (leb 97 b && leb b 122) || (leb 48 b && leb b 57) || eqb b 45
 unfoldable pub isName : List ℕ → Bool
 isName word = leb 1 (length word) && leb (length word) 16 && every isNameByte word
 
--- a formula of the language has names of that kind only
+-- a formula of the language: every name in it is one
 unfoldable pub isNamed : Formula → Bool
 isNamed True = true
 isNamed (name a) = isName a
@@ -114,7 +115,7 @@ onlyOne (some (x ∷ (y ∷ waiting))) = none
 unfoldable pub formulaOf : List ℕ → Option Formula
 formulaOf text = onlyOne (readWords (tokens text))
 
--- the test whether two formulas are equal
+-- "Two formulas are equal exactly when they are spelled alike": the test by structure, which the laws show to be the same
 unfoldable pub sameTold : Told → Told → Bool
 sameTold said said = true
 sameTold said put = false

@@ -1,5 +1,6 @@
 -- 01, "The journal" (a run and its answers) and "Codes on the board".
-use Prim.Native.Nat.{ℕ, _+_, _*_}
+use Prim.Native.Nat.{ℕ, suc, _+_, _*_}
+use mathlib.Core.Path.{_≡_}
 use mathlib.Core.Bool.{Bool, true, false}
 use mathlib.Core.List.{List, [], _∷_, _++_, map}
 use lib.ListN.{length, take, drop}
@@ -10,9 +11,10 @@ use Rattle.infon.specs.declared.Answer.the-variants.{No, Yes, Open}
 use Rattle.infon.specs.declared.Report.{Report}
 use Rattle.infon.specs.Bytes.{some-of}
 use Rattle.infon.specs.Formula.{Formula, same}
-use Rattle.infon.specs.Policy.{Entry, entriesOf, hypothesesOf, queriesOf, Verdict, passed, refused, andThen, when, code1, code2, code3, code4}
+use Rattle.infon.specs.Policy.{entriesOf, hypothesesOf, queriesOf, Verdict, passed, refused, andThen, when, code1, code2, code3, code4}
 use Rattle.infon.specs.Listing.{listOf, code5}
-use Rattle.infon.specs.Journal.{numbered, recordBytes, spelledAll, keptOf, grown, isFinished}
+use Rattle.infon.specs.Calculus.{Derives}
+use Rattle.infon.specs.Journal.{numbered, isRecorded, recordBytes, spelledAll, keptOf, grown, isFinished}
 
 -- "An answer is yes (byte 1), no (byte 0) or open (byte 2)"
 unfoldable pub answerByte : Answer → ℕ
@@ -53,6 +55,17 @@ code8 queries answers = when (ltb (length answers) (length queries)) 8 0
 -- 9: "a record is due and the buffer has no room for it"
 unfoldable pub code9 : List Record → List Record → List ℕ → Verdict
 code9 kept added journal = when (ltb (length journal) (recordBytes * (length kept + length added))) 9 0
+
+-- "Missing is the number of derivable formulas on the list that the kept part does not record." The row is the list from number
+-- i on.
+pub data Missing (hyps : List Formula) (kept : List Record) : ℕ → List Formula → ℕ → Type 0 where
+  no-more : (i : ℕ) → Missing hyps kept i [] 0
+  recorded : (i : ℕ) (x : Formula) (rest : List Formula) (m : ℕ) → isRecorded i kept ≡ true → Missing hyps kept (suc i) rest m
+      → Missing hyps kept i (x ∷ rest) m
+  underivable : (i : ℕ) (x : Formula) (rest : List Formula) (m : ℕ) → (Derives hyps x → ⊥) → Missing hyps kept (suc i) rest m
+      → Missing hyps kept i (x ∷ rest) m
+  missing : (i : ℕ) (x : Formula) (rest : List Formula) (m : ℕ) → isRecorded i kept ≡ false → Derives hyps x
+      → Missing hyps kept (suc i) rest m → Missing hyps kept i (x ∷ rest) (suc m)
 
 -- what a call leaves: its report, and both buffers
 pub record Outcome : Type 0 where

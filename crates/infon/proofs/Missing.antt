@@ -1,0 +1,260 @@
+-- Counts: a row of good records has no number twice and so at most L records; a run adds as many records as its limit allows or
+-- as are missing, the smaller.
+-- Assumes nothing.
+use Prim.Native.Nat.{ℕ, zero, suc, _+_, _≤_, _<_, min}
+use native.Mathlib.Nat.{zero-min, suc-min-suc, min-zero, eq-or-lt-of-le}
+use native.Mathlib.Omega.{arith}
+use mathlib.Core.Path.{_≡_, refl, sym, _∙_, ap, subst}
+use mathlib.Core.Logic.{_⊎_, inl, inr, ⊎-elim}
+use mathlib.Core.Bool.{Bool, true, false, _&&_, _||_, not, or-assoc, or-true, or-false, and-false, false≢true}
+use mathlib.Core.Option.{Option, none, some}
+use mathlib.Core.List.{List, [], _∷_, _++_, append-nil, append-assoc, List·Memᴰ}
+use lib.ListN.{length, getD, drop, length-append}
+use lib.Dec.{eqb}
+use lib.Seq.{drop-cons}
+use borrow.Author.Tests.{eq-eqb, ne-eqb, ltb-true}
+use Rattle.infon.specs.declared.Record.{Record}
+use Rattle.infon.specs.Bytes.{some-of}
+use Rattle.infon.specs.Formula.{Formula, True}
+use Rattle.infon.specs.Calculus.{Derives}
+use Rattle.infon.specs.Journal.{numbered, isRecorded, isGood, numbersFrom, next, isFinished, hasNone, followed, grown}
+use Rattle.infon.specs.Run.{Missing, no-more, recorded, underivable, missing}
+use Rattle.infon.proofs.Rows.{decided}
+use Rattle.infon.proofs.Counting.{countOf, count-passed, count-failed, count-alike, count-at-most, count-none, count-all, count-gained, from-has, from-above, from-length}
+use Rattle.infon.proofs.Grown.{GoodRow, stop, more, grown-good, good-append, finished-grown, grown-finished, grown-short, next-good}
+use Rattle.infon.proofs.Sound.{Sound, good-is, good-derives, premise-derived, sound-more, sound-row, sound-empty}
+use Rattle.infon.proofs.Finished.{List-of, derivable-recorded-number}
+
+some-of-append : {A : Type 0} (test : A → Bool) (xs ys : List A) → some-of test (xs ++ ys) ≡ some-of test xs || some-of test ys
+unfolding some-of
+some-of-append test [] ys = refl
+some-of-append test (x ∷ xs) ys =
+    ap (λ (b : Bool). test x || b) (some-of-append test xs ys) ∙ sym (or-assoc (test x) (some-of test xs) (some-of test ys))
+
+count-nothing : (ns : List ℕ) → countOf (λ (n : ℕ). false) ns ≡ 0
+unfolding countOf
+count-nothing [] = refl
+count-nothing (n ∷ rest) = count-nothing rest
+
+recorded-more : (n : ℕ) (done : List Record) (r : Record) → isRecorded n (done ++ (r ∷ [])) ≡ isRecorded n done || eqb n (r .formula)
+unfolding isRecorded some-of
+recorded-more n done r =
+    some-of-append (λ (s : Record). eqb n (s .formula)) done (r ∷ [])
+      ∙ ap (λ (b : Bool). some-of (λ (s : Record). eqb n (s .formula)) done || b) (or-false (eqb n (r .formula)))
+
+recorded-now : (done : List Record) (r : Record) → isRecorded (r .formula) (done ++ (r ∷ [])) ≡ true
+recorded-now done r =
+    recorded-more (r .formula) done r
+      ∙ (ap (λ (b : Bool). isRecorded (r .formula) done || b) (eq-eqb (r .formula) (r .formula) refl) ∙ or-true (isRecorded (r .formula) done))
+
+recorded-other : (n : ℕ) (done : List Record) (r : Record) → (n ≡ r .formula → ⊥) → isRecorded n (done ++ (r ∷ [])) ≡ isRecorded n done
+recorded-other n done r apart =
+    recorded-more n done r
+      ∙ (ap (λ (b : Bool). isRecorded n done || b) (ne-eqb n (r .formula) apart) ∙ or-false (isRecorded n done))
+
+full-or-short : {m n : ℕ} → m ≤ n → (n ≡ m) ⊎ (m < n)
+full-or-short h = ⊎-elim (λ e. inl (sym e)) (λ l. inr l) (eq-or-lt-of-le h)
+
+module _ (hyps fs : List Formula) where
+  -- how many numbers of the list the records have
+  recordedCount : List Record → ℕ
+  recordedCount done = countOf (λ (n : ℕ). isRecorded n done) (numbersFrom 0 (length fs))
+
+  recorded-gained : (done : List Record) (r : Record) → isGood hyps fs done r ≡ true
+      → recordedCount (done ++ (r ∷ [])) ≡ suc (recordedCount done)
+  unfolding recordedCount
+  recorded-gained done r h =
+      let good = good-is hyps fs done r h in
+      count-gained (λ (n : ℕ). isRecorded n done) (λ (n : ℕ). isRecorded n (done ++ (r ∷ []))) 0 (length fs) (r .formula) (omega arith)
+      (let low = good .below in omega arith) (good .fresh) (recorded-now done r) (λ m apart. sym (recorded-other m done r apart))
+
+  row-count : (done rest : List Record) → GoodRow hyps fs done rest → recordedCount (done ++ rest) ≡ recordedCount done + length rest
+  row-count done rest (stop d) = ap recordedCount (append-nil done) ∙ omega arith
+  row-count done rest (more d r later h row) =
+      let step = recorded-gained done r h in
+      let after = row-count (done ++ (r ∷ [])) later row in
+      let joined = ap recordedCount (append-assoc done (r ∷ []) later) in
+      omega arith
+
+  none-recorded : recordedCount [] ≡ 0
+  unfolding recordedCount isRecorded some-of
+  none-recorded = count-nothing (numbersFrom 0 (length fs))
+
+  -- a row of good records never has more than L records
+  pub row-short : (rs : List Record) → GoodRow hyps fs [] rs → length rs ≤ length fs
+  unfolding recordedCount
+  row-short rs row =
+      let count = row-count [] rs row in
+      let before = none-recorded in
+      let most = count-at-most (λ (n : ℕ). isRecorded n rs) (numbersFrom 0 (length fs)) in
+      let long = from-length 0 (length fs) in
+      omega arith
+
+  finished-or-next : (done : List Record) → (isFinished hyps fs done ≡ true) ⊎ ((r : Record) × (next hyps fs done ≡ some r))
+  unfolding isFinished hasNone
+  finished-or-next done = by (next hyps fs done) refl
+    where
+      by : (o : Option Record) → next hyps fs done ≡ o → (hasNone (next hyps fs done) ≡ true) ⊎ ((r : Record) × (next hyps fs done ≡ some r))
+      by none e = inl (ap hasNone e)
+      by (some r) e = inr (r, e)
+
+  -- what a limit of L leaves is finished: fewer records were added, or every number is recorded
+  pub grown-all : (done : List Record) → GoodRow hyps fs [] done
+      → isFinished hyps fs (done ++ grown hyps fs done (length fs)) ≡ true
+  unfolding recordedCount
+  grown-all done row =
+      let added = grown hyps fs done (length fs) in
+      ⊎-elim
+      (λ (long : length fs ≡ length added).
+        let count = row-count [] (done ++ added) (good-append hyps fs [] done added row (grown-good hyps fs done (length fs))) in
+        let sum = length-append done added in
+        let size = from-length 0 (length fs) in
+        let full = count-all (λ (n : ℕ). isRecorded n (done ++ added)) (numbersFrom 0 (length fs)) (omega arith) in
+        ⊎-elim (λ finished. finished)
+        (λ due.
+          let good = good-is hyps fs (done ++ added) (due .0) (next-good hyps fs (done ++ added) (due .0) (due .1)) in
+          absurd (false≢true (sym (good .fresh) ∙ full (due .0 .formula) (from-has 0 (length fs) (due .0 .formula) (omega arith) (let low = good .below in omega arith)))))
+        (finished-or-next (done ++ added)))
+      (λ (short : length added < length fs). grown-finished hyps fs done (length fs) short)
+      (full-or-short (grown-short hyps fs done (length fs)))
+
+  grown-next : (done : List Record) (n : ℕ) (r : Record) → next hyps fs done ≡ some r
+      → grown hyps fs done (suc n) ≡ r ∷ grown hyps fs (done ++ (r ∷ [])) n
+  unfolding grown followed
+  grown-next done n r e = rw e
+
+module _ (hyps fs : List Formula) (lists : List-of hyps fs) where
+  -- the finished journal from empty decides which formulas are derivable
+  final : List Record
+  final = grown hyps fs [] (length fs)
+
+  row-sound : (done : List Record) → GoodRow hyps fs [] done → Sound hyps fs done
+  row-sound done row = sound-row hyps fs (lists .named) [] done (sound-empty hyps fs (lists .named)) row
+
+  final-sound : Sound hyps fs final
+  unfolding final
+  final-sound = row-sound (grown hyps fs [] (length fs)) (grown-good hyps fs [] (length fs))
+
+  final-finished : isFinished hyps fs final ≡ true
+  unfolding final
+  final-finished = grown-all hyps fs [] (stop [])
+
+  derivable-final : (n : ℕ) → n < length fs → Derives hyps (numbered fs n) → isRecorded n final ≡ true
+  derivable-final n low d = derivable-recorded-number hyps fs lists final n final-sound final-finished low d
+
+  isMissing : List Record → ℕ → Bool
+  isMissing done n = isRecorded n final && not (isRecorded n done)
+
+  missingCount : List Record → ℕ
+  missingCount done = countOf (isMissing done) (numbersFrom 0 (length fs))
+
+  none-missing : (done : List Record) → Sound hyps fs done → isFinished hyps fs done ≡ true → missingCount done ≡ 0
+  unfolding missingCount isMissing
+  none-missing done sound finished =
+      count-alike (isMissing done) (λ (n : ℕ). false) (numbersFrom 0 (length fs))
+      (λ n m.
+        let low : n < length fs = let b = from-above 0 (length fs) n m in omega arith in
+        ⊎-elim
+        (λ (yes : isRecorded n final ≡ true).
+          rw (yes, derivable-recorded-number hyps fs lists done n sound finished low (premise-derived hyps fs final n final-sound yes)))
+        (λ (other : isRecorded n final ≡ false). rw other)
+        (decided (isRecorded n final)))
+        ∙ count-nothing (numbersFrom 0 (length fs))
+
+  one-less : (done : List Record) (r : Record) → Sound hyps fs done → isGood hyps fs done r ≡ true
+      → missingCount done ≡ suc (missingCount (done ++ (r ∷ [])))
+  unfolding missingCount isMissing
+  one-less done r sound h =
+      let good = good-is hyps fs done r h in
+      let found = derivable-final (r .formula) (good .below) (good-derives hyps fs (lists .named) done r sound h) in
+      count-gained (isMissing (done ++ (r ∷ []))) (isMissing done) 0 (length fs) (r .formula) (omega arith)
+      (let low = good .below in omega arith) (rw (found, recorded-now done r)) (rw (found, good .fresh))
+      (λ m apart. ap (λ (b : Bool). isRecorded m final && not b) (recorded-other m done r apart))
+
+  grown-count : (done : List Record) (n : ℕ) → Sound hyps fs done → length (grown hyps fs done n) ≡ min n (missingCount done)
+  unfolding grown
+  grown-count done zero sound = sym (zero-min (missingCount done))
+  grown-count done (suc n) sound =
+      ⊎-elim
+      (λ finished.
+        ap length (finished-grown hyps fs done (suc n) finished)
+          ∙ sym (ap (min (suc n)) (none-missing done sound finished) ∙ min-zero (suc n)))
+      (λ due.
+        let r = due .0 in
+        let h = next-good hyps fs done r (due .1) in
+        ap length (grown-next hyps fs done n r (due .1))
+          ∙ (ap suc (grown-count (done ++ (r ∷ [])) n (sound-more hyps fs (lists .named) done r sound h))
+          ∙ (sym (suc-min-suc n (missingCount (done ++ (r ∷ [])))) ∙ ap (min (suc n)) (sym (one-less done r sound h)))))
+      (finished-or-next hyps fs done)
+
+  next-at : (i : ℕ) (x : Formula) (rest : List Formula) → ((k : ℕ) → k < length (x ∷ rest) → numbered (x ∷ rest) k ≡ numbered fs (i + k))
+      → (k : ℕ) → k < length rest → numbered rest k ≡ numbered fs (suc i + k)
+  unfolding numbered
+  next-at i x rest at k low = at (suc k) (omega arith) ∙ ap (numbered fs) (omega arith)
+
+  here-at : (i : ℕ) (x : Formula) (rest : List Formula) → ((k : ℕ) → k < length (x ∷ rest) → numbered (x ∷ rest) k ≡ numbered fs (i + k))
+      → x ≡ numbered fs i
+  unfolding numbered
+  here-at i x rest at = at 0 (omega arith) ∙ ap (numbered fs) (omega arith)
+
+  -- `Missing` and the count say the same of the list from a number on
+  missing-counted : (done : List Record) (i : ℕ) (rest : List Formula) (m : ℕ)
+      → ((k : ℕ) → k < length rest → numbered rest k ≡ numbered fs (i + k)) → i + length rest ≡ length fs
+      → Missing hyps done i rest m → m ≡ countOf (isMissing done) (numbersFrom i (length rest))
+  unfolding numbersFrom countOf isMissing numbered
+  missing-counted done i rest m at size (no-more j) = refl
+  missing-counted done i rest m at size (recorded j x later k h tail) =
+      missing-counted done (suc i) later k (next-at i x later at) (omega arith) tail
+        ∙ sym (count-failed (isMissing done) i (numbersFrom (suc i) (length later)) (rw h (and-false (isRecorded i final))))
+  missing-counted done i rest m at size (underivable j x later k h tail) =
+      missing-counted done (suc i) later k (next-at i x later at) (omega arith) tail
+        ∙ sym (count-failed (isMissing done) i (numbersFrom (suc i) (length later))
+        (⊎-elim
+        (λ (yes : isRecorded i final ≡ true).
+          absurd (h (subst (Derives hyps) (sym (here-at i x later at)) (premise-derived hyps fs final i final-sound yes))))
+        (λ (other : isRecorded i final ≡ false). rw other)
+        (decided (isRecorded i final))))
+  missing-counted done i rest m at size (missing j x later k fresh d tail) =
+      ap suc (missing-counted done (suc i) later k (next-at i x later at) (omega arith) tail)
+        ∙ sym (count-passed (isMissing done) i (numbersFrom (suc i) (length later))
+        (rw (derivable-final i (omega arith) (subst (Derives hyps) (here-at i x later at) d), fresh)))
+
+  some-missing : (done : List Record) (i : ℕ) (rest : List Formula)
+      → ((k : ℕ) → k < length rest → numbered rest k ≡ numbered fs (i + k)) → i + length rest ≡ length fs
+      → (m : ℕ) × Missing hyps done i rest m
+  some-missing done i [] at size = (0, no-more i)
+  some-missing done i (x ∷ rest) at size =
+      let later = some-missing done (suc i) rest (next-at i x rest at) (omega arith) in
+      ⊎-elim
+      (λ (yes : isRecorded i done ≡ true). (later .0, recorded i x rest (later .0) yes (later .1)))
+      (λ (fresh : isRecorded i done ≡ false).
+        ⊎-elim
+        (λ (derived : isRecorded i final ≡ true).
+          (
+            suc (later .0),
+            missing i x rest (later .0) fresh
+            (subst (Derives hyps) (sym (here-at i x rest at)) (premise-derived hyps fs final i final-sound derived))
+            (later .1),
+          ))
+        (λ (other : isRecorded i final ≡ false).
+          (
+            later .0,
+            underivable i x rest (later .0)
+            (λ d.
+              false≢true
+              (sym other ∙ derivable-final i (omega arith) (subst (Derives hyps) (here-at i x rest at) d)))
+            (later .1),
+          ))
+        (decided (isRecorded i final)))
+      (decided (isRecorded i done))
+
+  -- some number is missing, and a run adds the smaller of its limit and that number
+  pub missing-exists : (done : List Record) → (m : ℕ) × Missing hyps done 0 fs m
+  missing-exists done = some-missing done 0 fs (λ k low. ap (numbered fs) (omega arith)) (omega arith)
+
+  pub adds-smaller : (done : List Record) (n m : ℕ) → GoodRow hyps fs [] done → Missing hyps done 0 fs m
+      → length (grown hyps fs done n) ≡ min n m
+  unfolding missingCount
+  adds-smaller done n m row h =
+      grown-count done n (row-sound done row)
+        ∙ ap (min n) (sym (missing-counted done 0 fs m (λ k low. ap (numbered fs) (omega arith)) (omega arith) h))
