@@ -1,26 +1,26 @@
 -- Rows of records each good after those before it: the kept part is the longest such row, growth adds such rows one record at
 -- a time, and what they spell is kept again.
 -- Assumes nothing.
-use Prim.Native.Nat.{ℕ, zero, suc, _+_, _≤_, _<_, zero-le, suc-le-suc, min}
-use native.Mathlib.Nat.{le-of-suc-le-suc, le-refl, le-total, not-suc-le-zero, add-sub-of-le, zero-add, add-comm, suc-add, suc-min-suc, zero-min, min-zero}
+use Prim.Native.Nat.{ℕ, zero, suc, _+_, _*_, _≤_, _<_, zero-le, suc-le-suc, min}
+use native.Mathlib.Nat.{le-of-suc-le-suc, not-suc-le-zero, zero-add, add-comm, suc-add, suc-min-suc, zero-min, min-zero}
 use native.Mathlib.Omega.{arith}
-use mathlib.Core.Path.{_≡_, refl, sym, _∙_, ap, subst}
+use mathlib.Core.Path.{_≡_, refl, sym, _∙_, ap}
 use mathlib.Core.Logic.{_⊎_, inl, inr}
-use mathlib.Core.Bool.{Bool, true, false, cond, _&&_, _||_, not, false≢true}
+use mathlib.Core.Bool.{Bool, true, false, _&&_, not, false≢true}
 use mathlib.Core.Option.{Option, none, some, Option·none-ne-some, Option·some-ne-none}
 use mathlib.Core.List.{List, [], _∷_, _++_, map, append-assoc, append-nil, List·Memᴰ, List·Memᴰ·head, List·Memᴰ·tail, List·Memᴰ·append-cases, List·Memᴰ·eq-of-singleton, List·Memᴰ·cases-cons, List·Memᴰ·not-nil, nil≢cons, cons≢nil, head-eq-of-cons-eq, tail-eq-of-cons-eq}
 use lib.ListN.{length, take, drop, getD, take-append-drop}
 use lib.Dec.{ltb, eqb}
-use lib.Seq.{take-all, take-nil, take-append-seam}
+use lib.Seq.{take-nil, take-append-seam}
 use borrow.Author.Tests.{ltb-true, eqb-true, not-true}
 use Rattle.infon.specs.declared.Way.{Way}
 use Rattle.infon.specs.declared.Way.the-variants.{Hypothesis, Given, Weaken, Left, Right, Both, Apply, Attach}
 use Rattle.infon.specs.declared.Record.{Record}
 use Rattle.infon.specs.Bytes.{some-of, first-of}
 use Rattle.infon.specs.Formula.{Formula}
-use Rattle.infon.specs.Journal.{gives, numbered, isRecorded, premisesIn, isGood, noPremise, firstPremise, secondPremise, spelled, spelledAll, decoded, wholeRecords, followed, onlyGood, keptAfter, next, hasNone, isFinished, grown, allRecords}
-use Rattle.infon.proofs.Rows.{and-true, or-true, decided}
-use Rattle.infon.proofs.Codec.{cond-cases, Small, decoded-spelled-each, wholeRecords-spelledAll}
+use Rattle.infon.specs.Journal.{recordBytes, gives, numbered, isRecorded, premisesIn, isGood, noPremise, firstPremise, secondPremise, spelled, spelledAll, decoded, wholeRecords, followed, onlyGood, keptAfter, next, hasNone, isFinished, grown, allRecords}
+use Rattle.infon.proofs.Rows.{and-true, or-true}
+use Rattle.infon.proofs.Codec.{cond-cases, AreBytes, Small, decoded-spelled-each, spelledAll-decoded, wholeRecords-spelledAll}
 
 -- Each of the records is good after `done` and those before it.
 pub data GoodRow (hyps fs : List Formula) : List Record → List Record → Type 0 where
@@ -30,7 +30,7 @@ pub data GoodRow (hyps fs : List Formula) : List Record → List Record → Type
 
 -- How a row is kept: until the rows of bytes end, or one of them spells no good record.
 data Keeping (hyps fs : List Formula) : List Record → List (List ℕ) → List Record → Type 0 where
-  passed : (done : List Record) → Keeping hyps fs done [] []
+  through : (done : List Record) → Keeping hyps fs done [] []
   broken : (done : List Record) (s : List ℕ) (cs : List (List ℕ)) → onlyGood hyps fs done (decoded s) ≡ none → Keeping hyps fs done (s ∷ cs) []
   held : (done : List Record) (s : List ℕ) (cs : List (List ℕ)) (r : Record) (rest : List Record) → onlyGood hyps fs done (decoded s) ≡ some r
       → Keeping hyps fs (done ++ (r ∷ [])) cs rest → Keeping hyps fs done (s ∷ cs) (r ∷ rest)
@@ -38,7 +38,7 @@ data Keeping (hyps fs : List Formula) : List Record → List (List ℕ) → List
 -- How a row grows: "each the next one", until the limit is reached or no record is next.
 data Growth (hyps fs : List Formula) : List Record → ℕ → List Record → Type 0 where
   limited : (done : List Record) → Growth hyps fs done 0 []
-  ended : (done : List Record) (n : ℕ) → next hyps fs done ≡ none → Growth hyps fs done n []
+  none-next : (done : List Record) (n : ℕ) → next hyps fs done ≡ none → Growth hyps fs done n []
   grew : (done : List Record) (n : ℕ) (r : Record) (rest : List Record) → next hyps fs done ≡ some r → Growth hyps fs (done ++ (r ∷ [])) n rest
       → Growth hyps fs done (suc n) (r ∷ rest)
 
@@ -52,8 +52,8 @@ unfolding first-of
 first-of-passes test [] x e = absurd (Option·none-ne-some x e)
 first-of-passes test (y ∷ ys) x e =
     elim (cond-cases (test y) (some y) (first-of test ys) (some x) e) [
-      inl passes ↦ let same : y ≡ x = cc in rw (← same) (passes .0)
-    | inr fails ↦ first-of-passes test ys x (fails .1)
+      | inl passes ↦ let same : y ≡ x = cc in rw (← same) (passes .0)
+      | inr fails ↦ first-of-passes test ys x (fails .1)
     ]
 
 -- a number that is recorded is some record's
@@ -62,8 +62,8 @@ unfolding isRecorded some-of
 recorded-member p [] h = absurd (false≢true h)
 recorded-member p (r ∷ rest) h =
     elim (or-true (eqb p (r .formula)) (isRecorded p rest) h) [
-      inl here ↦ (r, List·Memᴰ·head refl, eqb-true p (r .formula) here)
-    | inr later ↦ let found = recorded-member p rest later in (found .0, List·Memᴰ·tail (found .1), found .2)
+      | inl here ↦ (r, List·Memᴰ·head refl, eqb-true p (r .formula) here)
+      | inr later ↦ let found = recorded-member p rest later in (found .0, List·Memᴰ·tail (found .1), found .2)
     ]
 
 recorded-below : (n p : ℕ) (done : List Record) → Below n done → isRecorded p done ≡ true → p < n
@@ -88,7 +88,8 @@ premises-small (Attach p) done below h = (recorded-below 65536 p done below h, o
 module _ (hyps fs : List Formula) where
   -- "A record is good after given records if" these four hold
   pub good-parts : (done : List Record) (r : Record) → isGood hyps fs done r ≡ true
-      → (r .formula < length fs) × (isRecorded (r .formula) done ≡ false) × (premisesIn (r .way) done ≡ true) × (gives hyps fs (r .way) (numbered fs (r .formula)) ≡ true)
+      → (r .formula < length fs) × (isRecorded (r .formula) done ≡ false) × (premisesIn (r .way) done ≡ true)
+      × (gives hyps fs (r .way) (numbered fs (r .formula)) ≡ true)
   unfolding isGood
   good-parts done r h =
       let number = ltb (r .formula) (length fs) in
@@ -106,8 +107,8 @@ module _ (hyps fs : List Formula) where
   onlyGood-some done none r e = absurd (Option·none-ne-some r e)
   onlyGood-some done (some q) r e =
       elim (cond-cases (isGood hyps fs done q) (some q) none (some r) e) [
-        inl good ↦ let same : q ≡ r = cc in (good .1, rw (← same) (good .0))
-      | inr bad ↦ absurd (Option·none-ne-some r (bad .1))
+        | inl good ↦ let same : q ≡ r = cc in (good .1, rw (← same) (good .0))
+        | inr bad ↦ absurd (Option·none-ne-some r (bad .1))
       ]
 
   onlyGood-none : (done : List Record) (o : Option Record) → onlyGood hyps fs done o ≡ none
@@ -116,18 +117,18 @@ module _ (hyps fs : List Formula) where
   onlyGood-none done none e = inl refl
   onlyGood-none done (some q) e =
       elim (cond-cases (isGood hyps fs done q) (some q) none none e) [
-        inl good ↦ absurd (Option·some-ne-none q (good .1))
-      | inr bad ↦ inr (q, refl, bad .0)
+        | inl good ↦ absurd (Option·some-ne-none q (good .1))
+        | inr bad ↦ inr (q, refl, bad .0)
       ]
 
   pub next-good : (done : List Record) (r : Record) → next hyps fs done ≡ some r → isGood hyps fs done r ≡ true
   unfolding next
   next-good done r e = first-of-passes (isGood hyps fs done) (allRecords (length fs)) r e
 
-  keeping : (done : List Record) (cs : List (List ℕ)) → Keeping hyps fs done cs (keptAfter hyps fs done cs)
+  kept-keeping : (done : List Record) (cs : List (List ℕ)) → Keeping hyps fs done cs (keptAfter hyps fs done cs)
   unfolding keptAfter followed
-  keeping done [] = passed done
-  keeping done (s ∷ cs) = onwards (onlyGood hyps fs done (decoded s)) refl (λ (r : Record). keeping (done ++ (r ∷ [])) cs)
+  kept-keeping done [] = through done
+  kept-keeping done (s ∷ cs) = onwards (onlyGood hyps fs done (decoded s)) refl (λ (r : Record). kept-keeping (done ++ (r ∷ [])) cs)
     where
       onwards : (o : Option Record) → onlyGood hyps fs done (decoded s) ≡ o
           → ((r : Record) → Keeping hyps fs (done ++ (r ∷ [])) cs (keptAfter hyps fs (done ++ (r ∷ [])) cs))
@@ -135,33 +136,33 @@ module _ (hyps fs : List Formula) where
       onwards none e later = broken done s cs e
       onwards (some r) e later = held done s cs r (keptAfter hyps fs (done ++ (r ∷ [])) cs) e (later r)
 
-  growth : (done : List Record) (n : ℕ) → Growth hyps fs done n (grown hyps fs done n)
+  grown-growth : (done : List Record) (n : ℕ) → Growth hyps fs done n (grown hyps fs done n)
   unfolding grown followed
-  growth done zero = limited done
-  growth done (suc n) = onwards (next hyps fs done) refl (λ (r : Record). growth (done ++ (r ∷ [])) n)
+  grown-growth done zero = limited done
+  grown-growth done (suc n) = onwards (next hyps fs done) refl (λ (r : Record). grown-growth (done ++ (r ∷ [])) n)
     where
       onwards : (o : Option Record) → next hyps fs done ≡ o
           → ((r : Record) → Growth hyps fs (done ++ (r ∷ [])) n (grown hyps fs (done ++ (r ∷ [])) n))
           → Growth hyps fs done (suc n) (followed o (λ (r : Record). grown hyps fs (done ++ (r ∷ [])) n))
-      onwards none e later = ended done (suc n) e
+      onwards none e later = none-next done (suc n) e
       onwards (some r) e later = grew done n r (grown hyps fs (done ++ (r ∷ [])) n) e (later r)
 
   keeping-good : (done : List Record) (cs : List (List ℕ)) (xs : List Record) → Keeping hyps fs done cs xs → GoodRow hyps fs done xs
-  keeping-good done cs xs (passed _) = stop done
+  keeping-good done cs xs (through _) = stop done
   keeping-good done cs xs (broken _ s rest e) = stop done
   keeping-good done cs xs (held _ s rest r ys e later) =
       more done r ys (onlyGood-some done (decoded s) r e .1) (keeping-good (done ++ (r ∷ [])) rest ys later)
 
   growth-good : (done : List Record) (n : ℕ) (xs : List Record) → Growth hyps fs done n xs → GoodRow hyps fs done xs
   growth-good done n xs (limited _) = stop done
-  growth-good done n xs (ended _ _ e) = stop done
+  growth-good done n xs (none-next _ _ e) = stop done
   growth-good done n xs (grew _ m r rest e later) = more done r rest (next-good done r e) (growth-good (done ++ (r ∷ [])) m rest later)
 
   pub kept-good : (done : List Record) (cs : List (List ℕ)) → GoodRow hyps fs done (keptAfter hyps fs done cs)
-  kept-good done cs = keeping-good done cs (keptAfter hyps fs done cs) (keeping done cs)
+  kept-good done cs = keeping-good done cs (keptAfter hyps fs done cs) (kept-keeping done cs)
 
   pub grown-good : (done : List Record) (n : ℕ) → GoodRow hyps fs done (grown hyps fs done n)
-  grown-good done n = growth-good done n (grown hyps fs done n) (growth done n)
+  grown-good done n = growth-good done n (grown hyps fs done n) (grown-growth done n)
 
   pub good-append : (done xs ys : List Record) → GoodRow hyps fs done xs → GoodRow hyps fs (done ++ xs) ys → GoodRow hyps fs done (xs ++ ys)
   good-append done xs ys (stop _) goods = rw append-nil at goods
@@ -173,31 +174,36 @@ module _ (hyps fs : List Formula) where
   good-take done xs (suc n) (stop _) = stop done
   good-take done xs (suc n) (more _ r rest good later) = more done r (take n rest) good (good-take (done ++ (r ∷ [])) rest n later)
 
-  -- what is kept is what the rows of bytes spell
   keeping-decoded : (done : List Record) (cs : List (List ℕ)) (xs : List Record) → Keeping hyps fs done cs xs → map decoded (take (length xs) cs) ≡ map some xs
-  keeping-decoded done cs xs (passed _) = refl
+  keeping-decoded done cs xs (through _) = refl
   keeping-decoded done cs xs (broken _ s rest e) = refl
   keeping-decoded done cs xs (held _ s rest r ys e later) =
       rw (onlyGood-some done (decoded s) r e .0, keeping-decoded (done ++ (r ∷ [])) rest ys later)
 
+  -- what is kept is what the rows of bytes spell
   pub kept-decoded : (done : List Record) (cs : List (List ℕ))
       → map decoded (take (length (keptAfter hyps fs done cs)) cs) ≡ map some (keptAfter hyps fs done cs)
-  kept-decoded done cs = keeping-decoded done cs (keptAfter hyps fs done cs) (keeping done cs)
+  kept-decoded done cs = keeping-decoded done cs (keptAfter hyps fs done cs) (kept-keeping done cs)
 
-  -- where the kept part ends before the rows of bytes do, the next of them spells no record, or one that is not good
+  -- the kept part's bytes are what its records spell
+  pub kept-spelled : (done : List Record) (n : ℕ) (s : List ℕ) → AreBytes s → recordBytes * n ≤ length s
+      → take (recordBytes * length (keptAfter hyps fs done (wholeRecords n s))) s ≡ spelledAll (keptAfter hyps fs done (wholeRecords n s))
+  kept-spelled done n s bytes h = spelledAll-decoded (keptAfter hyps fs done (wholeRecords n s)) n s bytes h (kept-decoded done (wholeRecords n s))
+
   keeping-stops : (done : List Record) (cs : List (List ℕ)) (xs : List Record) → Keeping hyps fs done cs xs → length xs < length cs
       → onlyGood hyps fs (done ++ xs) (decoded (getD cs (length xs) [])) ≡ none
-  keeping-stops done cs xs (passed _) h = absurd (not-suc-le-zero h)
+  keeping-stops done cs xs (through _) h = absurd (not-suc-le-zero h)
   keeping-stops done cs xs (broken _ s rest e) h = rw append-nil e
   keeping-stops done cs xs (held _ s rest r ys e later) h = rw append-assoc at (keeping-stops (done ++ (r ∷ [])) rest ys later (le-of-suc-le-suc h))
 
-  -- the row of bytes behind the kept part
+  -- where the kept part ends before the rows of bytes do, the next of them spells no record, or one that is not good
   pub kept-stops : (done : List Record) (cs : List (List ℕ)) → length (keptAfter hyps fs done cs) < length cs
       → (decoded (getD cs (length (keptAfter hyps fs done cs)) []) ≡ none)
-      ⊎ ((r : Record) × (decoded (getD cs (length (keptAfter hyps fs done cs)) []) ≡ some r) × (isGood hyps fs (done ++ keptAfter hyps fs done cs) r ≡ false))
+      ⊎ ((r : Record) × (decoded (getD cs (length (keptAfter hyps fs done cs)) []) ≡ some r)
+      × (isGood hyps fs (done ++ keptAfter hyps fs done cs) r ≡ false))
   kept-stops done cs h =
       onlyGood-none (done ++ keptAfter hyps fs done cs) (decoded (getD cs (length (keptAfter hyps fs done cs)) []))
-      (keeping-stops done cs (keptAfter hyps fs done cs) (keeping done cs) h)
+      (keeping-stops done cs (keptAfter hyps fs done cs) (kept-keeping done cs) h)
 
   kept-some : (done : List Record) (s : List ℕ) (cs : List (List ℕ)) (r : Record) → decoded s ≡ some r → isGood hyps fs done r ≡ true
       → keptAfter hyps fs done (s ∷ cs) ≡ r ∷ keptAfter hyps fs (done ++ (r ∷ [])) cs
@@ -214,7 +220,7 @@ module _ (hyps fs : List Formula) where
       rw (
         kept-some done s (front ++ later) r (head-eq-of-cons-eq e) good,
         kept-append (done ++ (r ∷ [])) rest front later goods (tail-eq-of-cons-eq e),
-        append-assoc
+        append-assoc,
       )
 
   -- the kept part is the longest: a row of good records that the rows of bytes begin with is a beginning of it
@@ -235,7 +241,7 @@ module _ (hyps fs : List Formula) where
   unfolding grown followed
   grown-some done n r e = rw e
 
-  finished-none : (done : List Record) → isFinished hyps fs done ≡ true → next hyps fs done ≡ none
+  pub finished-none : (done : List Record) → isFinished hyps fs done ≡ true → next hyps fs done ≡ none
   unfolding isFinished hasNone
   finished-none done e = none-left (next hyps fs done) e
     where
@@ -243,7 +249,7 @@ module _ (hyps fs : List Formula) where
       none-left none e = refl
       none-left (some r) e = absurd (false≢true e)
 
-  none-finished : (done : List Record) → next hyps fs done ≡ none → isFinished hyps fs done ≡ true
+  pub none-finished : (done : List Record) → next hyps fs done ≡ none → isFinished hyps fs done ≡ true
   unfolding isFinished hasNone
   none-finished done e = rw e
 
@@ -252,42 +258,42 @@ module _ (hyps fs : List Formula) where
 
   growth-add : (done xs : List Record) (a b : ℕ) → Growth hyps fs done a xs → grown hyps fs done (a + b) ≡ xs ++ grown hyps fs (done ++ xs) b
   growth-add done xs a b (limited _) = rw (zero-add, append-nil)
-  growth-add done xs a b (ended _ _ e) = rw (append-nil, grown-none done (a + b) e, grown-none done b e)
+  growth-add done xs a b (none-next _ _ e) = rw (append-nil, grown-none done (a + b) e, grown-none done b e)
   growth-add done xs a b (grew _ n r rest e later) =
       rw (suc-add, grown-some done (n + b) r e, growth-add (done ++ (r ∷ [])) rest n b later, append-assoc)
 
   growth-short : (done xs : List Record) (n : ℕ) → Growth hyps fs done n xs → length xs ≤ n
   growth-short done xs n (limited _) = zero-le
-  growth-short done xs n (ended _ _ e) = zero-le
+  growth-short done xs n (none-next _ _ e) = zero-le
   growth-short done xs n (grew _ m r rest e later) = suc-le-suc (growth-short (done ++ (r ∷ [])) rest m later)
 
   growth-finished : (done xs : List Record) (n : ℕ) → Growth hyps fs done n xs → length xs < n → isFinished hyps fs (done ++ xs) ≡ true
   growth-finished done xs n (limited _) h = absurd (not-suc-le-zero h)
-  growth-finished done xs n (ended _ _ e) h = rw append-nil (none-finished done e)
+  growth-finished done xs n (none-next _ _ e) h = rw append-nil (none-finished done e)
   growth-finished done xs n (grew _ m r rest e later) h =
       rw append-assoc at (growth-finished (done ++ (r ∷ [])) rest m later (le-of-suc-le-suc h))
 
   growth-take : (done xs : List Record) (k n : ℕ) → Growth hyps fs done n xs → take k xs ≡ grown hyps fs done (min k n)
   unfolding grown
   growth-take done xs k n (limited _) = rw (take-nil, min-zero)
-  growth-take done xs k n (ended _ _ e) = rw (take-nil, grown-none done (min k n) e)
+  growth-take done xs k n (none-next _ _ e) = rw (take-nil, grown-none done (min k n) e)
   growth-take done xs zero n (grew _ m r rest e later) = rw zero-min
   growth-take done xs (suc k) n (grew _ m r rest e later) =
       rw (suc-min-suc, grown-some done (min k m) r e, growth-take (done ++ (r ∷ [])) rest k m later)
 
   -- what a and then b records add is what a + b records add
   pub grown-add : (done : List Record) (a b : ℕ) → grown hyps fs done (a + b) ≡ grown hyps fs done a ++ grown hyps fs (done ++ grown hyps fs done a) b
-  grown-add done a b = growth-add done (grown hyps fs done a) a b (growth done a)
+  grown-add done a b = growth-add done (grown hyps fs done a) a b (grown-growth done a)
 
   pub grown-short : (done : List Record) (n : ℕ) → length (grown hyps fs done n) ≤ n
-  grown-short done n = growth-short done (grown hyps fs done n) n (growth done n)
+  grown-short done n = growth-short done (grown hyps fs done n) n (grown-growth done n)
 
   -- a row that stays below its limit ends finished
   pub grown-finished : (done : List Record) (n : ℕ) → length (grown hyps fs done n) < n → isFinished hyps fs (done ++ grown hyps fs done n) ≡ true
-  grown-finished done n = growth-finished done (grown hyps fs done n) n (growth done n)
+  grown-finished done n = growth-finished done (grown hyps fs done n) n (grown-growth done n)
 
   pub take-grown : (done : List Record) (k n : ℕ) → take k (grown hyps fs done n) ≡ grown hyps fs done (min k n)
-  take-grown done k n = growth-take done (grown hyps fs done n) k n (growth done n)
+  take-grown done k n = growth-take done (grown hyps fs done n) k n (grown-growth done n)
 
   finished-add : (done : List Record) (m n : ℕ) → isFinished hyps fs (done ++ grown hyps fs done m) ≡ true → grown hyps fs done (m + n) ≡ grown hyps fs done m
   finished-add done m n e = rw (grown-add done m n, finished-grown (done ++ grown hyps fs done m) n e, append-nil)
@@ -301,8 +307,8 @@ module _ (hyps fs : List Formula) where
     below-snoc : (done : List Record) (r : Record) → Below (length fs) done → isGood hyps fs done r ≡ true → Below (length fs) (done ++ (r ∷ []))
     below-snoc done r below good q m =
         elim (List·Memᴰ·append-cases done m) [
-          inl early ↦ below q early
-        | inr last ↦ rw (List·Memᴰ·eq-of-singleton last) (good-parts done r good .0)
+          | inl early ↦ below q early
+          | inr last ↦ rw (List·Memᴰ·eq-of-singleton last) (good-parts done r good .0)
         ]
 
     good-small : (done : List Record) (r : Record) → Below (length fs) done → isGood hyps fs done r ≡ true → Small r
@@ -315,8 +321,8 @@ module _ (hyps fs : List Formula) where
     row-small-after done xs below (stop _) q m = absurd (List·Memᴰ·not-nil m)
     row-small-after done xs below (more _ r rest good later) q m =
         elim (List·Memᴰ·cases-cons m) [
-          inl here ↦ rw here (good-small done r below good)
-        | inr there ↦ row-small-after (done ++ (r ∷ [])) rest (below-snoc done r below good) later q there
+          | inl here ↦ rw here (good-small done r below good)
+          | inr there ↦ row-small-after (done ++ (r ∷ [])) rest (below-snoc done r below good) later q there
         ]
 
     -- the numbers of good records fit in their bytes
@@ -328,7 +334,8 @@ module _ (hyps fs : List Formula) where
         → keptAfter hyps fs [] (wholeRecords n (spelledAll rs ++ t)) ≡ take n rs
     unfolding keptAfter
     kept-of-spelled rs t n goods h =
+        let xs = take n rs in
+        let rows = map spelled xs in
         let goods-taken = good-take [] rs n goods in
-        let rows = map spelled (take n rs) in
-        rw (wholeRecords-spelledAll n rs t h, ← append-nil rows)
-        (kept-append [] (take n rs) rows [] goods-taken (decoded-spelled-each (take n rs) (row-small (take n rs) goods-taken)) ∙ append-nil (take n rs))
+        let read-back = decoded-spelled-each xs (row-small xs goods-taken) in
+        rw (wholeRecords-spelledAll n rs t h, ← append-nil rows) (kept-append [] xs rows [] goods-taken read-back ∙ append-nil xs)

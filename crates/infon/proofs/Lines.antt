@@ -1,0 +1,127 @@
+-- A file cut into lines, and the sentence on a line. The lines put together are the file; a line that ends in a line feed is
+-- cut off; a named sentence is read from its line, and whatever is read is named and stands on such a line.
+-- Assumes nothing.
+use Prim.Native.Nat.{ℕ}
+use mathlib.Core.Path.{_≡_, refl, sym, _∙_, ap, subst₂}
+use mathlib.Core.Bool.{Bool, true, false, cond}
+use mathlib.Core.Option.{some, Option·none-ne-some, Option·some-injective}
+use mathlib.Core.List.{List, [], _∷_, _++_, flatten}
+use native.Mathlib.Omega.{arith}
+use lib.ListN.{length}
+use lib.Dec.{leb, eqb}
+use borrow.Author.Tests.{eqb-true, le-leb}
+use Rattle.infon.specs.Bytes.{bytes, lineFeed, alike, every}
+use Rattle.infon.specs.Formula.{Formula, isNamed, spelling, onto, formulaOf}
+use Rattle.infon.specs.Policy.{cut, Sentence, hypothesis, query, says, behind, unended, read, sentenceOf, formulaIn}
+use Rattle.infon.proofs.Rows.{and-true, true-and}
+use Rattle.infon.proofs.Words.{picked, picked-alike, from-some, lacks, lacks-cons}
+use Rattle.infon.proofs.Readable.{read-spelling, spelling-read}
+
+-- Lines.
+flatten-onto : (b : ℕ) (lines : List (List ℕ)) → flatten (onto b lines) ≡ b ∷ flatten lines
+unfolding flatten onto
+flatten-onto b [] = refl
+flatten-onto b (line ∷ rest) = refl
+
+pub cut-concat : (s : List ℕ) → flatten (cut s) ≡ s
+unfolding cut flatten
+cut-concat [] = refl
+cut-concat (b ∷ s) =
+    elim (eqb b lineFeed) as (λ t. flatten (cond t ((b ∷ []) ∷ cut s) (onto b (cut s))) ≡ b ∷ s)
+    [ true ↦ rw (cut-concat s) | false ↦ rw (flatten-onto b (cut s), cut-concat s) ]
+
+pub cut-lineFeed : (s : List ℕ) → cut (lineFeed ∷ s) ≡ (lineFeed ∷ []) ∷ cut s
+unfolding cut lineFeed
+cut-lineFeed s = refl
+
+pub cut-byte : (b : ℕ) (s : List ℕ) → eqb b lineFeed ≡ false → cut (b ∷ s) ≡ onto b (cut s)
+unfolding cut
+cut-byte b s h = ap (λ t. cond t ((b ∷ []) ∷ cut s) (onto b (cut s))) h
+
+pub cut-line : (t rest : List ℕ) → lacks lineFeed t ≡ true → cut (t ++ (lineFeed ∷ rest)) ≡ (t ++ (lineFeed ∷ [])) ∷ cut rest
+unfolding onto
+cut-line [] rest h = cut-lineFeed rest
+cut-line (b ∷ t) rest h =
+    let both = lacks-cons lineFeed b t h in
+    cut-byte b (t ++ (lineFeed ∷ rest)) (both .0) ∙ ap (onto b) (cut-line t rest (both .1))
+
+pub cut-rest : (b : ℕ) (t : List ℕ) → lacks lineFeed (b ∷ t) ≡ true → cut (b ∷ t) ≡ (b ∷ t) ∷ []
+unfolding cut onto
+cut-rest b [] h = cut-byte b [] (lacks-cons lineFeed b [] h .0)
+cut-rest b (c ∷ t) h =
+    let both = lacks-cons lineFeed b (c ∷ t) h in
+    cut-byte b (c ∷ t) (both .0) ∙ ap (onto b) (cut-rest c t (both .1))
+
+abbrev pub isNonempty : List ℕ → Bool
+isNonempty line = leb 1 (length line)
+
+cons-nonempty : (b : ℕ) (t : List ℕ) → isNonempty (b ∷ t) ≡ true
+cons-nonempty b t = le-leb 1 (length (b ∷ t)) (omega arith)
+
+onto-nonempty : (b : ℕ) (lines : List (List ℕ)) → every isNonempty lines ≡ true → every isNonempty (onto b lines) ≡ true
+unfolding onto every
+onto-nonempty b [] h = true-and (cons-nonempty b []) refl
+onto-nonempty b (line ∷ rest) h = true-and (cons-nonempty b line) (and-true (isNonempty line) (every isNonempty rest) h .1)
+
+pub cut-nonempty : (s : List ℕ) → every isNonempty (cut s) ≡ true
+unfolding cut every
+cut-nonempty [] = refl
+cut-nonempty (b ∷ s) =
+    elim (eqb b lineFeed) as (λ t. every isNonempty (cond t ((b ∷ []) ∷ cut s) (onto b (cut s))) ≡ true)
+    [ true ↦ cut-nonempty s | false ↦ onto-nonempty b (cut s) (cut-nonempty s) ]
+
+-- The line feed that ends a line.
+pub unended-ended : (text : List ℕ) → unended (text ++ (lineFeed ∷ [])) ≡ some text
+unfolding unended behind lineFeed
+unended-ended [] = refl
+unended-ended (b ∷ []) = refl
+unended-ended (b ∷ (c ∷ text)) = ap (behind b) (unended-ended (c ∷ text))
+
+pub ended-unended : (line text : List ℕ) → unended line ≡ some text → line ≡ text ++ (lineFeed ∷ [])
+unfolding unended behind
+ended-unended [] text h = absurd (Option·none-ne-some text h)
+ended-unended (b ∷ []) text h =
+    picked (eqb b lineFeed) h (λ t e. rw (eqb-true b lineFeed t, ← Option·some-injective [] text e))
+    λ e. absurd (Option·none-ne-some text e)
+ended-unended (b ∷ (c ∷ line)) text h =
+    let rest = from-some (behind b) refl (unended (c ∷ line)) text h in
+    rw (← Option·some-injective (b ∷ rest .0) text (rest .2), ended-unended (c ∷ line) (rest .0) (rest .1))
+
+-- Sentences. How the line of each kind begins, and the whole line:
+abbrev pub opening : Sentence → List ℕ
+opening (hypothesis x) = bytes "H "
+opening (query x) = bytes "Q "
+
+abbrev pub lineOf : Sentence → List ℕ
+lineOf s = opening s ++ (spelling (formulaIn s) ++ (lineFeed ∷ []))
+
+pub read-line : (s : Sentence) → isNamed (formulaIn s) ≡ true → sentenceOf (lineOf s) ≡ some s
+unfolding sentenceOf formulaIn bytes alike read says
+read-line (hypothesis x) h = rw (unended-ended (spelling x), read-spelling x h)
+read-line (query x) h = rw (unended-ended (spelling x), read-spelling x h)
+
+abbrev Spells : List ℕ → Sentence → Type 0
+Spells line s = (line ≡ lineOf s) × (isNamed (formulaIn s) ≡ true)
+
+-- what stands behind the opening of a letter's lines is read as that letter's sentence
+letter-read : (letter : Formula → Sentence) (start text : List ℕ) (s : Sentence)
+    → ((x : Formula) → isNamed x ≡ true → Spells (start ++ (spelling x ++ (lineFeed ∷ []))) (letter x)) → read letter (unended text) ≡ some s
+    → Spells (start ++ text) s
+unfolding read says
+letter-read letter start text s spells h =
+    let inner = from-some (read letter) refl (unended text) s h in
+    let formula = from-some (says letter) refl (formulaOf (inner .0)) s (inner .2) in
+    let spelled = spelling-read (inner .0) (formula .0) (formula .1) in
+    subst₂ (λ t r. Spells (start ++ t) r) (sym (ended-unended text (inner .0) (inner .1) ∙ ap (λ t. t ++ (lineFeed ∷ [])) (spelled .0)))
+    (Option·some-injective (letter (formula .0)) s (formula .2)) (spells (formula .0) (spelled .1))
+
+pub line-read : (line : List ℕ) (s : Sentence) → sentenceOf line ≡ some s → (line ≡ lineOf s) × (isNamed (formulaIn s) ≡ true)
+unfolding sentenceOf formulaIn
+line-read [] s h = absurd (Option·none-ne-some s h)
+line-read (a ∷ []) s h = absurd (Option·none-ne-some s h)
+line-read (a ∷ (b ∷ text)) s h =
+    picked-alike (λ start. Spells (start ++ text) s) (a ∷ (b ∷ [])) (bytes "H ") h
+    (letter-read hypothesis (bytes "H ") text s (λ x named. (refl, named)))
+    λ h. picked-alike (λ start. Spells (start ++ text) s) (a ∷ (b ∷ [])) (bytes "Q ") h
+    (letter-read query (bytes "Q ") text s (λ x named. (refl, named)))
+    λ e. absurd (Option·none-ne-some s e)

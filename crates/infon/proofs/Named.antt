@@ -1,0 +1,96 @@
+-- Every formula on a file's list is one of the language: its names are names.
+-- Assumes nothing.
+use Prim.Native.Nat.{ℕ}
+use mathlib.Core.Path.{_≡_, refl, sym, _∙_, ap, subst}
+use mathlib.Core.Logic.{_⊎_, inl, inr, ⊎-elim}
+use mathlib.Core.Bool.{Bool, true, false, _&&_}
+use mathlib.Core.Option.{Option, none, some}
+use mathlib.Core.List.{List, [], _∷_, _++_, List·Memᴰ, List·Memᴰ·head, List·Memᴰ·tail, List·Memᴰ·not-nil, List·Memᴰ·cases-cons, List·Memᴰ·append-cases}
+use Rattle.infon.specs.Bytes.{every}
+use Rattle.infon.specs.Formula.{Quotation, Formula, True, name, and, implies, quoted, isName, isNamed}
+use Rattle.infon.specs.Policy.{Line, Sentence, Entry, entry, entriesFrom, entriesOf, linesOf, sentenceOf, formulaIn}
+use Rattle.infon.specs.Listing.{Prefix, wrap, weakened, local, listOf}
+use Rattle.infon.specs.Calculus.{Weaker, end, kept, lowered}
+use Rattle.infon.proofs.Rows.{and-true, true-and}
+use Rattle.infon.proofs.Prefixes.{mem-weakened}
+use Rattle.infon.proofs.Lines.{line-read}
+use Rattle.infon.proofs.Listed.{unskipped, listOf-only}
+
+-- the principals of a prefix are names
+principalsNamed : Prefix → Bool
+principalsNamed w = every (λ (q : Quotation). isName (q .principal)) w
+
+weaker-named : {v w : Prefix} → Weaker v w → principalsNamed w ≡ true → principalsNamed v ≡ true
+unfolding principalsNamed every
+weaker-named end h = refl
+weaker-named (kept q le) h = let parts = and-true (isName (q .principal)) _ h in true-and (parts .0) (weaker-named le (parts .1))
+weaker-named (lowered p le) h = let parts = and-true (isName p) _ h in true-and (parts .0) (weaker-named le (parts .1))
+
+wrap-named : (w : Prefix) (x : Formula) → principalsNamed w ≡ true → isNamed x ≡ true → isNamed (wrap w x) ≡ true
+unfolding principalsNamed every wrap isNamed
+wrap-named [] x hw hx = hx
+wrap-named (q ∷ w) x hw hx =
+    let parts = and-true (isName (q .principal)) (principalsNamed w) hw in
+    wrap-named w (quoted q x) (parts .1) (true-and (parts .0) hx)
+
+weakened-named : (p : Prefix) (b z : Formula) → principalsNamed p ≡ true → isNamed b ≡ true → List·Memᴰ z (weakened p b) → isNamed z ≡ true
+weakened-named p b z hp hb m =
+    let found = mem-weakened p b m in
+    ap isNamed (found .1 .1) ∙ wrap-named (found .0) b (weaker-named (found .1 .0) hp) hb
+
+local-named : (p : Prefix) (x z : Formula) → principalsNamed p ≡ true → isNamed x ≡ true → List·Memᴰ z (local p x) → isNamed z ≡ true
+unfolding local isNamed principalsNamed every
+local-named p True z hp hx m = weakened-named p True z hp hx m
+local-named p (name a) z hp hx m = weakened-named p (name a) z hp hx m
+local-named p (and x y) z hp hx m =
+    let parts = and-true (isNamed x) (isNamed y) hx in
+    ⊎-elim (λ i. weakened-named p (and x y) z hp hx i)
+    (λ i.
+      ⊎-elim (λ (j : List·Memᴰ z (local p x)). local-named p x z hp (parts .0) j)
+      (λ (j : List·Memᴰ z (local p y)). local-named p y z hp (parts .1) j)
+      (List·Memᴰ·append-cases (local p x) i))
+    (List·Memᴰ·append-cases (weakened p (and x y)) m)
+local-named p (implies x y) z hp hx m =
+    let parts = and-true (isNamed x) (isNamed y) hx in
+    ⊎-elim (λ i. weakened-named p (implies x y) z hp hx i)
+    (λ i.
+      ⊎-elim (λ (j : List·Memᴰ z (local p x)). local-named p x z hp (parts .0) j)
+      (λ (j : List·Memᴰ z (local p y)). local-named p y z hp (parts .1) j)
+      (List·Memᴰ·append-cases (local p x) i))
+    (List·Memᴰ·append-cases (weakened p (implies x y)) m)
+local-named p (quoted q x) z hp hx m =
+    let parts = and-true (isName (q .principal)) (isNamed x) hx in
+    local-named (q ∷ p) x z (true-and (parts .0) hp) (parts .1) m
+
+-- the formulas of a file's entries are of the language
+entry-named : (start : ℕ) (text : List ℕ) (o : Option Sentence) (rest : List Entry) → sentenceOf text ≡ o
+    → ((e : Entry) → List·Memᴰ e rest → isNamed (formulaIn (e .sentence)) ≡ true)
+    → (e : Entry) → List·Memᴰ e (entry start o rest) → isNamed (formulaIn (e .sentence)) ≡ true
+unfolding entry
+entry-named start text none rest read later e m = later e m
+entry-named start text (some s) rest read later e m =
+    ⊎-elim (λ same. ap (λ (f : Entry). isNamed (formulaIn (f .sentence))) same ∙ line-read text s read .1)
+    (λ (i : List·Memᴰ e rest). later e i)
+    (List·Memᴰ·cases-cons m)
+
+entries-named : (lines : List Line) (e : Entry) → List·Memᴰ e (entriesFrom lines) → isNamed (formulaIn (e .sentence)) ≡ true
+unfolding entriesFrom
+entries-named [] e m = absurd (List·Memᴰ·not-nil m)
+entries-named (line ∷ rest) e m =
+    entry-named (line .start) (line .text) (sentenceOf (line .text)) (entriesFrom rest) refl (entries-named rest) e m
+
+unskipped-named : (entries : List Entry) → ((e : Entry) → List·Memᴰ e entries → isNamed (formulaIn (e .sentence)) ≡ true)
+    → (z : Formula) → List·Memᴰ z (unskipped entries) → isNamed z ≡ true
+unfolding unskipped principalsNamed every
+unskipped-named [] named z m = absurd (List·Memᴰ·not-nil m)
+unskipped-named (e ∷ rest) named z m =
+    ⊎-elim
+    (λ (i : List·Memᴰ z (local [] (formulaIn (e .sentence)))).
+      local-named [] (formulaIn (e .sentence)) z refl (named e (List·Memᴰ·head refl)) i)
+    (λ (i : List·Memᴰ z (unskipped rest)). unskipped-named rest (λ f j. named f (List·Memᴰ·tail j)) z i)
+    (List·Memᴰ·append-cases (local [] (formulaIn (e .sentence))) m)
+
+pub listed-named : (file : List ℕ) (z : Formula) → List·Memᴰ z (listOf (entriesOf file)) → isNamed z ≡ true
+unfolding entriesOf
+listed-named file z m =
+    unskipped-named (entriesFrom (linesOf file)) (entries-named (linesOf file)) z (listOf-only (entriesFrom (linesOf file)) m)
