@@ -49,10 +49,10 @@ count-none test (k ∷ rest) h n m =
     ⊎-elim
     (λ (p : test k ≡ true). absurd (impossible (sym (count-passed test k rest p) ∙ h)))
     (λ (p : test k ≡ false).
-      ⊎-elim
-      (λ (e : n ≡ k). ap test e ∙ p)
-      (λ (i : List·Memᴰ n rest). count-none test rest (sym (count-failed test k rest p) ∙ h) n i)
-      (List·Memᴰ·cases-cons m))
+    ⊎-elim
+    (λ (e : n ≡ k). ap test e ∙ p)
+    (λ (i : List·Memᴰ n rest). count-none test rest (sym (count-failed test k rest p) ∙ h) n i)
+    (List·Memᴰ·cases-cons m))
     (decided (test k))
   where
     impossible : {j : ℕ} → suc j ≡ 0 → ⊥
@@ -64,12 +64,12 @@ count-all test [] h n m = absurd (List·Memᴰ·not-nil m)
 count-all test (k ∷ rest) h n m =
     ⊎-elim
     (λ (p : test k ≡ true).
-      ⊎-elim
-      (λ (e : n ≡ k). ap test e ∙ p)
-      (λ (i : List·Memᴰ n rest). count-all test rest (let q = count-passed test k rest p in omega arith) n i)
-      (List·Memᴰ·cases-cons m))
+    ⊎-elim
+    (λ (e : n ≡ k). ap test e ∙ p)
+    (λ (i : List·Memᴰ n rest). count-all test rest (let q = count-passed test k rest p in omega arith) n i)
+    (List·Memᴰ·cases-cons m))
     (λ (p : test k ≡ false).
-      absurd (let q = count-failed test k rest p in let r = count-at-most test rest in omega arith))
+    absurd (let q = count-failed test k rest p in let r = count-at-most test rest in omega arith))
     (decided (test k))
 
 nothing-between : (i n : ℕ) → i ≤ n → n < i + 0 → ⊥
@@ -107,20 +107,20 @@ count-gained test other i zero n low high was now others = absurd (nothing-betwe
 count-gained test other i (suc k) n low high was now others =
     ⊎-elim
     (λ (e : i ≡ n).
-      let later =
-        count-alike test other (numbersFrom (suc i) k)
-        (λ m inside. let above = from-above (suc i) k m inside in others m (λ (eq : m ≡ n). omega arith)) in
-      count-passed other i (numbersFrom (suc i) k) (ap other e ∙ now)
-        ∙ ap suc (sym later ∙ sym (count-failed test i (numbersFrom (suc i) k) (ap test e ∙ was))))
+    let later =
+    count-alike test other (numbersFrom (suc i) k)
+    (λ m inside. let above = from-above (suc i) k m inside in others m (λ (eq : m ≡ n). omega arith)) in
+    count-passed other i (numbersFrom (suc i) k) (ap other e ∙ now)
+    ∙ ap suc (sym later ∙ sym (count-failed test i (numbersFrom (suc i) k) (ap test e ∙ was))))
     (λ (l : i < n).
-      let later = count-gained test other (suc i) k n l (omega arith) was now others in
-      let here = others i (λ (eq : i ≡ n). omega arith) in
-      ⊎-elim
-      (λ (p : test i ≡ true).
-        count-passed other i (numbersFrom (suc i) k) (sym here ∙ p)
-          ∙ ap suc (later ∙ sym (count-passed test i (numbersFrom (suc i) k) p)))
-      (λ (p : test i ≡ false).
-        count-failed other i (numbersFrom (suc i) k) (sym here ∙ p)
-          ∙ (later ∙ ap suc (sym (count-failed test i (numbersFrom (suc i) k) p))))
-      (decided (test i)))
+    let later = count-gained test other (suc i) k n l (omega arith) was now others in
+    let here = others i (λ (eq : i ≡ n). omega arith) in
+    ⊎-elim
+    (λ (p : test i ≡ true).
+    count-passed other i (numbersFrom (suc i) k) (sym here ∙ p)
+    ∙ ap suc (later ∙ sym (count-passed test i (numbersFrom (suc i) k) p)))
+    (λ (p : test i ≡ false).
+    count-failed other i (numbersFrom (suc i) k) (sym here ∙ p)
+    ∙ (later ∙ ap suc (sym (count-failed test i (numbersFrom (suc i) k) p))))
+    (decided (test i)))
     (eq-or-lt-of-le low)

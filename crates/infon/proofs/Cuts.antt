@@ -14,7 +14,7 @@ use borrow.Author.Tests.{ltb-false}
 use Rattle.infon.specs.declared.Record.{Record}
 use Rattle.infon.specs.Formula.{Formula, depth, nodes}
 use Rattle.infon.specs.Policy.{Line, Entry, formulaIn, isWellFormed, linesOf, entriesOf, hypothesesOf, queriesOf, Verdict, passed, refused, andThen, when, mostBytes, mostNodes, mostDepth, code1, code2From, code2, code3From, code3, code4}
-use Rattle.infon.specs.Listing.{listOf, enlist, local, mostListed, code5From, code5}
+use Rattle.infon.specs.Listing.{listOf, enlist, weakenedBases, mostListed, code5From, code5}
 use Rattle.infon.specs.Journal.{recordBytes, spelledAll, keptAfter, keptOf, grown, isFinished}
 use Rattle.infon.specs.Run.{Outcome, fileVerdict, code6, code7, code8, code9, refusal, written, success, settled, run}
 use Rattle.infon.proofs.Codec.{length-spelledAll, spelledAll-append, take-spelledAll, wholeRecords-cong}
@@ -92,7 +92,7 @@ code5-coded : (fs : List Formula) (entries : List Entry) → Coded (code5From fs
 unfolding code5From
 code5-coded fs [] = none-applies
 code5-coded fs (e ∷ rest) =
-    let now = enlist fs (local [] (formulaIn (e .sentence))) in
+    let now = enlist fs (weakenedBases [] (formulaIn (e .sentence))) in
     andThen-coded (when-coded (ltb mostListed (length now)) 5 (e .start) (omega arith)) (code5-coded now rest)
 
 file-coded : (file : List ℕ) → Coded (fileVerdict file)

@@ -15,13 +15,14 @@ use borrow.Author.Tests.{ltb-true, lt-ltb, eqb-true, eq-eqb, ne-eqb}
 use Rattle.infon.specs.declared.Way.{Way}
 use Rattle.infon.specs.declared.Way.the-variants.{Hypothesis, Given, Weaken, Left, Right, Both, Apply, Attach}
 use Rattle.infon.specs.declared.Record.{Record}
-use Rattle.infon.specs.Bytes.{some-of, first-of}
+use Rattle.infon.specs.Bytes.{someOf, firstOf}
 use Rattle.infon.specs.Formula.{Formula, True, and, implies, isNamed, same}
 use Rattle.infon.specs.Listing.{Prefix, wrap, isListed}
 use Rattle.infon.specs.Calculus.{Weaker, Derives}
-use Rattle.infon.specs.Journal.{shapeOf, weakenings, isTruth, isLeft, isRight, areBoth, isUpper, isLower, numbered, gives, isRecorded, premisesIn, isGood, numbersFrom, allRecords, next, hasNone, isFinished, followed, grown}
-use Rattle.infon.specs.Run.{isAnswered, Missing, no-more, recorded, underivable, missing}
-use Rattle.infon.proofs.Rows.{and-true, true-and, decided, some-of-witness, witness-some-of}
+use Rattle.infon.specs.Rules.{shapeOf, weakenings, isTruth, isLeft, isRight, areBoth, isConclusion, isCondition, numbered, gives}
+use Rattle.infon.specs.Journal.{isRecorded, premisesIn, isGood, numbersFrom, allRecords, next, hasNone, isFinished, followed, grown}
+use Rattle.infon.specs.Run.{isOnRecord, Missing, no-more, recorded, underivable, missing}
+use Rattle.infon.proofs.Rows.{and-true, true-and, decided, someOf-witness, witness-someOf}
 use Rattle.infon.proofs.Same.{same-refl, same-eq}
 use Rattle.infon.proofs.Prefixes.{listed-mem, mem-listed, shape-wrap-True, shape-wrap-and, shape-wrap-implies, weaker-weakenings}
 use Rattle.infon.proofs.Listed.{listed-number, numbered-mem}
@@ -38,9 +39,9 @@ has-none none h = refl
 has-none (some r) h = absurd (false≢true h)
 
 module _ (hyps fs : List Formula) where
-  none-next : (done : List Record) → isFinished hyps fs done ≡ true → first-of (isGood hyps fs done) (allRecords (length fs)) ≡ none
+  none-next : (done : List Record) → isFinished hyps fs done ≡ true → firstOf (isGood hyps fs done) (allRecords (length fs)) ≡ none
   unfolding isFinished next
-  none-next done finished = has-none (first-of (isGood hyps fs done) (allRecords (length fs))) finished
+  none-next done finished = has-none (firstOf (isGood hyps fs done) (allRecords (length fs))) finished
 
   -- in a finished journal no record is good
   none-good : (done : List Record) (r : Record) → isFinished hyps fs done ≡ true → r .formula < length fs
@@ -61,24 +62,23 @@ module _ (hyps fs : List Formula) where
       let r : Record = record { formula = n; way = way } in
       ⊎-elim (λ yes. yes)
       (λ fresh.
-        absurd (false≢true (sym (none-good done r finished low below) ∙ is-good done r low fresh premises follows)))
+      absurd (false≢true (sym (none-good done r finished low below) ∙ is-good done r low fresh premises follows)))
       (decided (isRecorded n done))
 
   -- a formula that is recorded, by its number
-  answered-by : (done : List Record) (n : ℕ) (x : Formula) → isRecorded n done ≡ true → numbered fs n ≡ x → isAnswered fs done x ≡ true
-  unfolding isAnswered
+  answered-by : (done : List Record) (n : ℕ) (x : Formula) → isRecorded n done ≡ true → numbered fs n ≡ x → isOnRecord fs done x ≡ true
+  unfolding isOnRecord
   answered-by done n x h e =
       let found = recorded-by n done h in
-      witness-some-of (λ (r : Record). same x (numbered fs (r .formula))) (found .1 .0)
+      witness-someOf (λ (r : Record). same x (numbered fs (r .formula))) (found .1 .0)
       (subst (λ (y : Formula). same x y ≡ true) (sym e ∙ ap (numbered fs) (found .1 .1)) (same-refl x))
 
-  number-of : (done : List Record) (x : Formula) → Sound hyps fs done → isAnswered fs done x ≡ true
+  number-of : (done : List Record) (x : Formula) → Sound hyps fs done → isOnRecord fs done x ≡ true
       → (p : ℕ) × ((p < length fs) × ((isRecorded p done ≡ true) × (numbered fs p ≡ x)))
-  unfolding isAnswered
+  unfolding isOnRecord
   number-of done x sound h =
-      let found = some-of-witness (λ (r : Record). same x (numbered fs (r .formula))) done h in
-      let r = found .0 in
-      (
+      let found = someOf-witness (λ (r : Record). same x (numbered fs (r .formula))) done h in
+      let r = found .0 in (
         r .formula,
         (
           sound .listed r (found .1 .0),
@@ -87,7 +87,7 @@ module _ (hyps fs : List Formula) where
       )
 
   conclude : (done : List Record) (way : Way) (z : Formula) → isFinished hyps fs done ≡ true → isListed z fs ≡ true
-      → PremisesBelow (length fs) way → premisesIn way done ≡ true → gives hyps fs way z ≡ true → isAnswered fs done z ≡ true
+      → PremisesBelow (length fs) way → premisesIn way done ≡ true → gives hyps fs way z ≡ true → isOnRecord fs done z ≡ true
   conclude done way z finished listed below premises follows =
       let at = listed-number (listed-mem z fs listed) in
       answered-by done (at .0) z
@@ -111,12 +111,12 @@ module _ (hyps fs : List Formula) where
 
   gives-apply : (p q : ℕ) (w : Prefix) (x y : Formula) → numbered fs p ≡ wrap w x → numbered fs q ≡ wrap w (implies x y)
       → gives hyps fs (Apply p q) (wrap w y) ≡ true
-  unfolding gives isLower isUpper
+  unfolding gives isCondition isConclusion
   gives-apply p q w x y ex ei =
       rw (ex, ei, shape-wrap-implies) (true-and (same-refl (wrap w x)) (same-refl (wrap w y)))
 
   gives-attach : (p : ℕ) (w : Prefix) (x y : Formula) → numbered fs p ≡ wrap w y → gives hyps fs (Attach p) (wrap w (implies x y)) ≡ true
-  unfolding gives isUpper
+  unfolding gives isConclusion
   gives-attach p w x y e = rw (e, shape-wrap-implies) (same-refl (wrap w y))
 
   gives-given : (w : Prefix) → gives hyps fs Given (wrap w True) ≡ true
@@ -134,39 +134,39 @@ module _ (hyps fs : List Formula) where
   -- the records of a finished journal are closed under the rules on the list
   complete : (done : List Record) → Sound hyps fs done → isFinished hyps fs done ≡ true
       → ((x : Formula) → List·Memᴰ x hyps → isListed x fs ≡ true)
-      → Complete hyps (λ (x : Formula). isListed x fs) (λ (x : Formula). isAnswered fs done x)
+      → Complete hyps (λ (x : Formula). isListed x fs) (λ (x : Formula). isOnRecord fs done x)
   unfolding premisesIn
   complete done sound finished listed =
       record {
         by-hypothesis =
-          λ x m. (listed x m, conclude done Hypothesis x finished (listed x m) tt refl (gives-hypothesis x m));
+            λ x m. (listed x m, conclude done Hypothesis x finished (listed x m) tt refl (gives-hypothesis x m));
         by-given = λ w l. conclude done Given (wrap w True) finished l tt refl (gives-given w);
         by-weaken =
-          λ v w x le h l.
+            λ v w x le h l.
             let p = number-of done (wrap w x) sound h in
             conclude done (Weaken (p .0)) (wrap v x) finished l (p .1 .0) (p .1 .1 .0) (gives-weaken (p .0) v w x le (p .1 .1 .1));
         by-left =
-          λ w x y h l.
+            λ w x y h l.
             let p = number-of done (wrap w (and x y)) sound h in
             conclude done (Left (p .0)) (wrap w x) finished l (p .1 .0) (p .1 .1 .0) (gives-left (p .0) w x y (p .1 .1 .1));
         by-right =
-          λ w x y h l.
+            λ w x y h l.
             let p = number-of done (wrap w (and x y)) sound h in
             conclude done (Right (p .0)) (wrap w y) finished l (p .1 .0) (p .1 .1 .0) (gives-right (p .0) w x y (p .1 .1 .1));
         by-both =
-          λ w x y hx hy l.
+            λ w x y hx hy l.
             let p = number-of done (wrap w x) sound hx in
             let q = number-of done (wrap w y) sound hy in
             conclude done (Both (p .0) (q .0)) (wrap w (and x y)) finished l (p .1 .0, q .1 .0)
             (true-and (p .1 .1 .0) (q .1 .1 .0)) (gives-both (p .0) (q .0) w x y (p .1 .1 .1) (q .1 .1 .1));
         by-apply =
-          λ w x y hx hi l.
+            λ w x y hx hi l.
             let p = number-of done (wrap w x) sound hx in
             let q = number-of done (wrap w (implies x y)) sound hi in
             conclude done (Apply (p .0) (q .0)) (wrap w y) finished l (p .1 .0, q .1 .0) (true-and (p .1 .1 .0) (q .1 .1 .0))
             (gives-apply (p .0) (q .0) w x y (p .1 .1 .1) (q .1 .1 .1));
         by-attach =
-          λ w x y h l.
+            λ w x y h l.
             let p = number-of done (wrap w y) sound h in
             conclude done (Attach (p .0)) (wrap w (implies x y)) finished l (p .1 .0) (p .1 .1 .0)
             (gives-attach (p .0) w x y (p .1 .1 .1));
@@ -182,12 +182,12 @@ pub record List-of (hyps fs : List Formula) : Type 0 where
 module _ (hyps fs : List Formula) (lists : List-of hyps fs) where
   -- demand 2, for formulas of the list: recorded in a finished journal exactly if derivable
   pub derivable-answered : (done : List Record) (z : Formula) → Sound hyps fs done → isFinished hyps fs done ≡ true → isListed z fs ≡ true
-      → Derives hyps z → isAnswered fs done z ≡ true
+      → Derives hyps z → isOnRecord fs done z ≡ true
   derivable-answered done z sound finished listed d =
-      derivable-recorded hyps (λ (x : Formula). isListed x fs) (λ (x : Formula). isAnswered fs done x) (lists .closed)
+      derivable-recorded hyps (λ (x : Formula). isListed x fs) (λ (x : Formula). isOnRecord fs done x) (lists .closed)
       (complete hyps fs done sound finished (lists .hypotheses)) z listed d
 
-  pub answered-derivable : (done : List Record) (z : Formula) → Sound hyps fs done → isAnswered fs done z ≡ true → Derives hyps z
+  pub answered-derivable : (done : List Record) (z : Formula) → Sound hyps fs done → isOnRecord fs done z ≡ true → Derives hyps z
   answered-derivable done z sound h =
       let p = number-of hyps fs done z sound h in
       subst (Derives hyps) (p .1 .1 .1) (premise-derived hyps fs done (p .0) sound (p .1 .1 .0))

@@ -16,9 +16,10 @@ use borrow.Author.Tests.{ltb-true, eqb-true, not-true}
 use Rattle.infon.specs.declared.Way.{Way}
 use Rattle.infon.specs.declared.Way.the-variants.{Hypothesis, Given, Weaken, Left, Right, Both, Apply, Attach}
 use Rattle.infon.specs.declared.Record.{Record}
-use Rattle.infon.specs.Bytes.{some-of, first-of}
+use Rattle.infon.specs.Bytes.{someOf, firstOf}
 use Rattle.infon.specs.Formula.{Formula}
-use Rattle.infon.specs.Journal.{recordBytes, gives, numbered, isRecorded, premisesIn, isGood, noPremise, firstPremise, secondPremise, spelled, spelledAll, decoded, wholeRecords, followed, onlyGood, keptAfter, next, hasNone, isFinished, grown, allRecords}
+use Rattle.infon.specs.Rules.{gives, numbered}
+use Rattle.infon.specs.Journal.{recordBytes, isRecorded, premisesIn, isGood, noPremise, firstPremise, secondPremise, spelled, spelledAll, decoded, wholeRecords, followed, onlyGood, keptAfter, next, hasNone, isFinished, grown, allRecords}
 use Rattle.infon.proofs.Rows.{and-true, or-true}
 use Rattle.infon.proofs.Codec.{cond-cases, AreBytes, Small, decoded-spelled-each, spelledAll-decoded, wholeRecords-spelledAll}
 
@@ -46,19 +47,19 @@ data Growth (hyps fs : List Formula) : List Record → ℕ → List Record → T
 abbrev pub Below : ℕ → List Record → Type 0
 Below n done = (q : Record) → List·Memᴰ q done → q .formula < n
 
--- what `first-of` gives passes the test
-first-of-passes : {A : Type 0} (test : A → Bool) (xs : List A) (x : A) → first-of test xs ≡ some x → test x ≡ true
-unfolding first-of
-first-of-passes test [] x e = absurd (Option·none-ne-some x e)
-first-of-passes test (y ∷ ys) x e =
-    elim (cond-cases (test y) (some y) (first-of test ys) (some x) e) [
+-- what `firstOf` gives passes the test
+firstOf-passes : {A : Type 0} (test : A → Bool) (xs : List A) (x : A) → firstOf test xs ≡ some x → test x ≡ true
+unfolding firstOf
+firstOf-passes test [] x e = absurd (Option·none-ne-some x e)
+firstOf-passes test (y ∷ ys) x e =
+    elim (cond-cases (test y) (some y) (firstOf test ys) (some x) e) [
       | inl passes ↦ let same : y ≡ x = cc in rw (← same) (passes .0)
-      | inr fails ↦ first-of-passes test ys x (fails .1)
+      | inr fails ↦ firstOf-passes test ys x (fails .1)
     ]
 
 -- a number that is recorded is some record's
 recorded-member : (p : ℕ) (done : List Record) → isRecorded p done ≡ true → (q : Record) × List·Memᴰ q done × (p ≡ q .formula)
-unfolding isRecorded some-of
+unfolding isRecorded someOf
 recorded-member p [] h = absurd (false≢true h)
 recorded-member p (r ∷ rest) h =
     elim (or-true (eqb p (r .formula)) (isRecorded p rest) h) [
@@ -123,7 +124,7 @@ module _ (hyps fs : List Formula) where
 
   pub next-good : (done : List Record) (r : Record) → next hyps fs done ≡ some r → isGood hyps fs done r ≡ true
   unfolding next
-  next-good done r e = first-of-passes (isGood hyps fs done) (allRecords (length fs)) r e
+  next-good done r e = firstOf-passes (isGood hyps fs done) (allRecords (length fs)) r e
 
   kept-keeping : (done : List Record) (cs : List (List ℕ)) → Keeping hyps fs done cs (keptAfter hyps fs done cs)
   unfolding keptAfter followed

@@ -18,8 +18,8 @@ use Rattle.infon.proofs.Ascending.{Ascending, ascending-append, ascendi
 abbrev pub WayBefore : Way → Way → Type 0
 WayBefore v w =
     (ruleOf v < ruleOf w)
-      ⊎ ((ruleOf v ≡ ruleOf w)
-      × ((firstPremise v < firstPremise w) ⊎ ((firstPremise v ≡ firstPremise w) × (secondPremise v < secondPremise w))))
+    ⊎ ((ruleOf v ≡ ruleOf w)
+    × ((firstPremise v < firstPremise w) ⊎ ((firstPremise v ≡ firstPremise w) × (secondPremise v < secondPremise w))))
 
 -- the order of records: the formula's number, then the way
 abbrev pub Before : Record → Record → Type 0
@@ -47,14 +47,14 @@ block-since : (k : ℕ) (ws vs : List Way) → Block k ws → Since (suc k) vs �
 block-since k ws vs here later =
     record {
       rule =
-        λ w m.
+          λ w m.
           ⊎-elim
           (λ (i : List·Memᴰ w ws). let e = here .rule w i in omega arith)
           (λ (i : List·Memᴰ w vs). let e = later .rule w i in omega arith)
           (List·Memᴰ·append-cases ws m);
       ascends =
-        ascending-append WayBefore ws vs (here .ascends) (later .ascends)
-        (λ v w i j. inl (let e = here .rule v i in let f = later .rule w j in omega arith));
+          ascending-append WayBefore ws vs (here .ascends) (later .ascends)
+          (λ v w i j. inl (let e = here .rule v i in let f = later .rule w j in omega arith));
     }
 
 one-block : (k : ℕ) (rule : ℕ → Way) (ns : List ℕ) → ((p : ℕ) → ruleOf (rule p) ≡ k) → ((p : ℕ) → firstPremise (rule p) ≡ p)
@@ -64,8 +64,8 @@ one-block k rule ns is first up =
     record {
       rule = λ w m. let there = map-mem rule w ns m in ap ruleOf (there .1 .1) ∙ is (there .0);
       ascends =
-        ascending-map rule Less WayBefore
-        (λ p q less. inr (is p ∙ sym (is q), inl (let a = first p in let b = first q in omega arith))) ns up;
+          ascending-map rule Less WayBefore
+          (λ p q less. inr (is p ∙ sym (is q), inl (let a = first p in let b = first q in omega arith))) ns up;
     }
 
 pair-mem : (rule : ℕ → ℕ → Way) (ps qs : List ℕ) (w : Way) → List·Memᴰ w (eachPair rule ps qs)
@@ -76,8 +76,8 @@ pair-mem rule (p ∷ ps) qs w m =
     ⊎-elim
     (λ (i : List·Memᴰ w (map (rule p) qs)). let there = map-mem (rule p) w qs i in (p, (List·Memᴰ·head refl, (there .0, there .1))))
     (λ (i : List·Memᴰ w (eachPair rule ps qs)).
-      let there = pair-mem rule ps qs w i in
-      (there .0, (List·Memᴰ·tail (there .1 .0), there .1 .1)))
+    let there = pair-mem rule ps qs w i in
+    (there .0, (List·Memᴰ·tail (there .1 .0), there .1 .1)))
     (List·Memᴰ·append-cases (map (rule p) qs) m)
 
 mem-pair : (rule : ℕ → ℕ → Way) (p q : ℕ) (ps qs : List ℕ) → List·Memᴰ p ps → List·Memᴰ q qs
@@ -87,7 +87,7 @@ mem-pair rule p q [] qs i j = absurd (List·Memᴰ·not-nil i)
 mem-pair rule p q (n ∷ ps) qs i j =
     ⊎-elim
     (λ (e : p ≡ n).
-      Memᴰ·append-left (eachPair rule ps qs) (subst (λ (m : ℕ). List·Memᴰ (rule p q) (map (rule m) qs)) e (mem-map (rule p) j)))
+    Memᴰ·append-left (eachPair rule ps qs) (subst (λ (m : ℕ). List·Memᴰ (rule p q) (map (rule m) qs)) e (mem-map (rule p) j)))
     (λ (t : List·Memᴰ p ps). Memᴰ·append-right (map (rule n) qs) (mem-pair rule p q ps qs t j))
     (List·Memᴰ·cases-cons i)
 
@@ -100,30 +100,29 @@ two-block k rule (p ∷ ps) qs is first second up across =
     let later = two-block k rule ps qs is first second (up .1) across in
     record {
       rule =
-        λ w m.
+          λ w m.
           let there = pair-mem rule (p ∷ ps) qs w m in
           ap ruleOf (there .1 .1 .1 .1) ∙ is (there .0) (there .1 .1 .0);
       ascends =
-        ascending-append WayBefore (map (rule p) qs) (eachPair rule ps qs)
-        (ascending-map (rule p) Less WayBefore
-        (λ a b less.
+          ascending-append WayBefore (map (rule p) qs) (eachPair rule ps qs)
+          (ascending-map (rule p) Less WayBefore
+          (λ a b less.
           inr
           (is p a ∙ sym (is p b), inr (first p a ∙ sym (first p b), let x = second p a in let y = second p b in omega arith)))
-        qs across)
-        (later .ascends)
-        (λ v w i j.
+          qs across)
+          (later .ascends)
+          (λ v w i j.
           let from = map-mem (rule p) v qs i in
           let to = pair-mem rule ps qs w j in
           let ev = from .1 .1 in
           let ew = to .1 .1 .1 .1 in
           let less = up .0 (to .0) (to .1 .0) in
-          inr
-          (
+          inr (
             (ap ruleOf ev ∙ is p (from .0)) ∙ sym (ap ruleOf ew ∙ is (to .0) (to .1 .1 .0)),
             inl
-            (let a = ap firstPremise ev ∙ first p (from .0) in
-            let b = ap firstPremise ew ∙ first (to .0) (to .1 .1 .0) in
-            omega arith),
+                (let a = ap firstPremise ev ∙ first p (from .0) in
+                let b = ap firstPremise ew ∙ first (to .0) (to .1 .1 .0) in
+                omega arith),
           ));
     }
 
@@ -132,26 +131,25 @@ unfolding allWays ruleOf firstPremise secondPremise
 ways-ascend ns up =
     let attach = one-block 8 Attach ns (λ p. refl) (λ p. refl) up in
     let since8 : Since 8 (map Attach ns) =
-      record { rule = λ w m. let e = attach .rule w m in omega arith; ascends = attach .ascends } in
+    record { rule = λ w m. let e = attach .rule w m in omega arith; ascends = attach .ascends } in
     let since7 =
-      block-since 7 (eachPair Apply ns ns) (map Attach ns)
-      (two-block 7 Apply ns ns (λ p q. refl) (λ p q. refl) (λ p q. refl) up up) since8 in
+    block-since 7 (eachPair Apply ns ns) (map Attach ns)
+    (two-block 7 Apply ns ns (λ p q. refl) (λ p q. refl) (λ p q. refl) up up) since8 in
     let since6 =
-      block-since 6 (eachPair Both ns ns) (eachPair Apply ns ns ++ map Attach ns)
-      (two-block 6 Both ns ns (λ p q. refl) (λ p q. refl) (λ p q. refl) up up) since7 in
+    block-since 6 (eachPair Both ns ns) (eachPair Apply ns ns ++ map Attach ns)
+    (two-block 6 Both ns ns (λ p q. refl) (λ p q. refl) (λ p q. refl) up up) since7 in
     let since5 = block-since 5 (map Right ns) (eachPair Both ns ns ++ (eachPair Apply ns ns ++ map Attach ns))
-      (one-block 5 Right ns (λ p. refl) (λ p. refl) up) since6 in
+    (one-block 5 Right ns (λ p. refl) (λ p. refl) up) since6 in
     let since4 = block-since 4 (map Left ns) (map Right ns ++ (eachPair Both ns ns ++ (eachPair Apply ns ns ++ map Attach ns)))
-      (one-block 4 Left ns (λ p. refl) (λ p. refl) up) since5 in
+    (one-block 4 Left ns (λ p. refl) (λ p. refl) up) since5 in
     let since3 = block-since 3 (map Weaken ns)
-      (map Left ns ++ (map Right ns ++ (eachPair Both ns ns ++ (eachPair Apply ns ns ++ map Attach ns))))
-      (one-block 3 Weaken ns (λ p. refl) (λ p. refl) up) since4 in
-    (
+    (map Left ns ++ (map Right ns ++ (eachPair Both ns ns ++ (eachPair Apply ns ns ++ map Attach ns))))
+    (one-block 3 Weaken ns (λ p. refl) (λ p. refl) up) since4 in (
       λ w m.
-        ⊎-elim
-        (λ (e : w ≡ Given). inl (subst (λ (v : Way). 1 < ruleOf v) (sym e) (omega arith)))
-        (λ (i : List·Memᴰ w _). inl (let b = since3 .rule w i in omega arith))
-        (List·Memᴰ·cases-cons m),
+          ⊎-elim
+          (λ (e : w ≡ Given). inl (subst (λ (v : Way). 1 < ruleOf v) (sym e) (omega arith)))
+          (λ (i : List·Memᴰ w _). inl (let b = since3 .rule w i in omega arith))
+          (List·Memᴰ·cases-cons m),
       (λ w m. inl (let b = since3 .rule w m in omega arith), since3 .ascends),
     )
 
@@ -162,14 +160,13 @@ record-mem ways [] r m = absurd (List·Memᴰ·not-nil m)
 record-mem ways (n ∷ ns) r m =
     ⊎-elim
     (λ (i : List·Memᴰ r (map (λ (w : Way). record { formula = n; way = w }) ways)).
-      let there = map-mem (λ (w : Way). record { formula = n; way = w }) r ways i in
-      (
-        List·Memᴰ·head (ap (λ (s : Record). s .formula) (there .1 .1)),
-        subst (λ (w : Way). List·Memᴰ w ways) (sym (ap (λ (s : Record). s .way) (there .1 .1))) (there .1 .0),
-      ))
+    let there = map-mem (λ (w : Way). record { formula = n; way = w }) r ways i in (
+      List·Memᴰ·head (ap (λ (s : Record). s .formula) (there .1 .1)),
+      subst (λ (w : Way). List·Memᴰ w ways) (sym (ap (λ (s : Record). s .way) (there .1 .1))) (there .1 .0),
+    ))
     (λ (i : List·Memᴰ r (recordsFor ways ns)).
-      let there = record-mem ways ns r i in
-      (List·Memᴰ·tail (there .0), there .1))
+    let there = record-mem ways ns r i in
+    (List·Memᴰ·tail (there .0), there .1))
     (List·Memᴰ·append-cases (map (λ (w : Way). record { formula = n; way = w }) ways) m)
 
 mem-record : (ways : List Way) (ns : List ℕ) (r : Record) → List·Memᴰ (r .formula) ns → List·Memᴰ (r .way) ways
@@ -179,11 +176,11 @@ mem-record ways [] r i j = absurd (List·Memᴰ·not-nil i)
 mem-record ways (n ∷ ns) r i j =
     ⊎-elim
     (λ (e : r .formula ≡ n).
-      Memᴰ·append-left (recordsFor ways ns)
-      (subst (λ (m : ℕ). List·Memᴰ r (map (λ (w : Way). record { formula = m; way = w }) ways)) e
-      (mem-map (λ (w : Way). record { formula = r .formula; way = w }) j)))
+    Memᴰ·append-left (recordsFor ways ns)
+    (subst (λ (m : ℕ). List·Memᴰ r (map (λ (w : Way). record { formula = m; way = w }) ways)) e
+    (mem-map (λ (w : Way). record { formula = r .formula; way = w }) j)))
     (λ (t : List·Memᴰ (r .formula) ns).
-      Memᴰ·append-right (map (λ (w : Way). record { formula = n; way = w }) ways) (mem-record ways ns r t j))
+    Memᴰ·append-right (map (λ (w : Way). record { formula = n; way = w }) ways) (mem-record ways ns r t j))
     (List·Memᴰ·cases-cons i)
 
 records-ascend : (ways : List Way) (ns : List ℕ) → Ascending WayBefore ways → Ascending Less ns
@@ -195,10 +192,10 @@ records-ascend ways (n ∷ ns) up across =
     (ascending-map (λ (w : Way). record { formula = n; way = w }) WayBefore Before (λ v w before. inr (refl, before)) ways up)
     (records-ascend ways ns up (across .1))
     (λ r s i j.
-      let from = map-mem (λ (w : Way). record { formula = n; way = w }) r ways i in
-      let e = ap (λ (t : Record). t .formula) (from .1 .1) in
-      let less = across .0 (s .formula) (record-mem ways ns s j .0) in
-      inl (omega arith))
+    let from = map-mem (λ (w : Way). record { formula = n; way = w }) r ways i in
+    let e = ap (λ (t : Record). t .formula) (from .1 .1) in
+    let less = across .0 (s .formula) (record-mem ways ns s j .0) in
+    inl (omega arith))
 
 pub all-ascend : (n : ℕ) → Ascending Before (allRecords n)
 unfolding allRecords

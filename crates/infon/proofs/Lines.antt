@@ -12,7 +12,7 @@ use lib.Dec.{leb, eqb}
 use borrow.Author.Tests.{eqb-true, le-leb}
 use Rattle.infon.specs.Bytes.{bytes, lineFeed, alike, every}
 use Rattle.infon.specs.Formula.{Formula, isNamed, spelling, onto, formulaOf}
-use Rattle.infon.specs.Policy.{cut, Sentence, hypothesis, query, says, behind, unended, read, sentenceOf, formulaIn}
+use Rattle.infon.specs.Policy.{cut, Sentence, hypothesis, query, says, inFront, beforeFeed, read, sentenceOf, formulaIn}
 use Rattle.infon.proofs.Rows.{and-true, true-and}
 use Rattle.infon.proofs.Words.{picked, picked-alike, from-some, lacks, lacks-cons}
 use Rattle.infon.proofs.Readable.{read-spelling, spelling-read}
@@ -71,21 +71,21 @@ cut-nonempty (b ∷ s) =
     [ true ↦ cut-nonempty s | false ↦ onto-nonempty b (cut s) (cut-nonempty s) ]
 
 -- The line feed that ends a line.
-pub unended-ended : (text : List ℕ) → unended (text ++ (lineFeed ∷ [])) ≡ some text
-unfolding unended behind lineFeed
-unended-ended [] = refl
-unended-ended (b ∷ []) = refl
-unended-ended (b ∷ (c ∷ text)) = ap (behind b) (unended-ended (c ∷ text))
+pub beforeFeed-ended : (text : List ℕ) → beforeFeed (text ++ (lineFeed ∷ [])) ≡ some text
+unfolding beforeFeed inFront lineFeed
+beforeFeed-ended [] = refl
+beforeFeed-ended (b ∷ []) = refl
+beforeFeed-ended (b ∷ (c ∷ text)) = ap (inFront b) (beforeFeed-ended (c ∷ text))
 
-pub ended-unended : (line text : List ℕ) → unended line ≡ some text → line ≡ text ++ (lineFeed ∷ [])
-unfolding unended behind
-ended-unended [] text h = absurd (Option·none-ne-some text h)
-ended-unended (b ∷ []) text h =
+pub ended-beforeFeed : (line text : List ℕ) → beforeFeed line ≡ some text → line ≡ text ++ (lineFeed ∷ [])
+unfolding beforeFeed inFront
+ended-beforeFeed [] text h = absurd (Option·none-ne-some text h)
+ended-beforeFeed (b ∷ []) text h =
     picked (eqb b lineFeed) h (λ t e. rw (eqb-true b lineFeed t, ← Option·some-injective [] text e))
     λ e. absurd (Option·none-ne-some text e)
-ended-unended (b ∷ (c ∷ line)) text h =
-    let rest = from-some (behind b) refl (unended (c ∷ line)) text h in
-    rw (← Option·some-injective (b ∷ rest .0) text (rest .2), ended-unended (c ∷ line) (rest .0) (rest .1))
+ended-beforeFeed (b ∷ (c ∷ line)) text h =
+    let rest = from-some (inFront b) refl (beforeFeed (c ∷ line)) text h in
+    rw (← Option·some-injective (b ∷ rest .0) text (rest .2), ended-beforeFeed (c ∷ line) (rest .0) (rest .1))
 
 -- Sentences. How the line of each kind begins, and the whole line:
 abbrev pub opening : Sentence → List ℕ
@@ -97,22 +97,22 @@ lineOf s = opening s ++ (spelling (formulaIn s) ++ (lineFeed ∷ []))
 
 pub read-line : (s : Sentence) → isNamed (formulaIn s) ≡ true → sentenceOf (lineOf s) ≡ some s
 unfolding sentenceOf formulaIn bytes alike read says
-read-line (hypothesis x) h = rw (unended-ended (spelling x), read-spelling x h)
-read-line (query x) h = rw (unended-ended (spelling x), read-spelling x h)
+read-line (hypothesis x) h = rw (beforeFeed-ended (spelling x), read-spelling x h)
+read-line (query x) h = rw (beforeFeed-ended (spelling x), read-spelling x h)
 
 abbrev Spells : List ℕ → Sentence → Type 0
 Spells line s = (line ≡ lineOf s) × (isNamed (formulaIn s) ≡ true)
 
 -- what stands behind the opening of a letter's lines is read as that letter's sentence
 letter-read : (letter : Formula → Sentence) (start text : List ℕ) (s : Sentence)
-    → ((x : Formula) → isNamed x ≡ true → Spells (start ++ (spelling x ++ (lineFeed ∷ []))) (letter x)) → read letter (unended text) ≡ some s
+    → ((x : Formula) → isNamed x ≡ true → Spells (start ++ (spelling x ++ (lineFeed ∷ []))) (letter x)) → read letter (beforeFeed text) ≡ some s
     → Spells (start ++ text) s
 unfolding read says
 letter-read letter start text s spells h =
-    let inner = from-some (read letter) refl (unended text) s h in
+    let inner = from-some (read letter) refl (beforeFeed text) s h in
     let formula = from-some (says letter) refl (formulaOf (inner .0)) s (inner .2) in
     let spelled = spelling-read (inner .0) (formula .0) (formula .1) in
-    subst₂ (λ t r. Spells (start ++ t) r) (sym (ended-unended text (inner .0) (inner .1) ∙ ap (λ t. t ++ (lineFeed ∷ [])) (spelled .0)))
+    subst₂ (λ t r. Spells (start ++ t) r) (sym (ended-beforeFeed text (inner .0) (inner .1) ∙ ap (λ t. t ++ (lineFeed ∷ [])) (spelled .0)))
     (Option·some-injective (letter (formula .0)) s (formula .2)) (spells (formula .0) (spelled .1))
 
 pub line-read : (line : List ℕ) (s : Sentence) → sentenceOf line ≡ some s → (line ≡ lineOf s) × (isNamed (formulaIn s) ≡ true)

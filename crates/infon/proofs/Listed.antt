@@ -15,11 +15,11 @@ use lib.Dec.{ltb}
 use borrow.Author.Tests.{ltb-false, le-ltb}
 use Rattle.infon.specs.Formula.{Formula, True, name, and, implies, quoted}
 use Rattle.infon.specs.Policy.{Sentence, hypothesis, query, Entry, formulaIn, hypothesesOf, queriesOf, Verdict, passed, andThen, when}
-use Rattle.infon.specs.Listing.{Prefix, wrap, weakened, local, isListed, enlist, listFrom, listOf, mostListed, code5From, code5}
-use Rattle.infon.specs.Calculus.{Weaker, end, kept}
-use Rattle.infon.specs.Journal.{Shape, truth, primitive, conjunction, implication, shapeUnder, shapeOf, weakenings, numbered}
+use Rattle.infon.specs.Listing.{Prefix, wrap, weakened, weakenedBases, isListed, enlist, listFrom, listOf, mostListed, code5From, code5}
+use Rattle.infon.specs.Calculus.{Weaker, end, unchanged}
+use Rattle.infon.specs.Rules.{Shape, truth, primitive, conjunction, implication, shapeUnder, shapeOf, coreOf, weakenings, numbered}
 use Rattle.infon.proofs.Rows.{decided}
-use Rattle.infon.proofs.Prefixes.{listed-mem, mem-listed, coreOf, shape-wrap, shape-wrap-and, shape-wrap-implies}
+use Rattle.infon.proofs.Prefixes.{listed-mem, mem-listed, shape-wrap, shape-wrap-and, shape-wrap-implies}
 use Rattle.infon.proofs.Prefixes.{mem-weakened, weakened-mem, weaker-weakenings, weakened-twice}
 
 -- a formula of a row has a number there
@@ -110,13 +110,13 @@ enlist-append fs (x ∷ xs) ys = enlist-append (enlistOne fs x) xs ys
 -- all that the lines ask to be listed, before anything is skipped
 unfoldable pub unskipped : List Entry → List Formula
 unskipped [] = []
-unskipped (e ∷ rest) = local [] (formulaIn (e .sentence)) ++ unskipped rest
+unskipped (e ∷ rest) = weakenedBases [] (formulaIn (e .sentence)) ++ unskipped rest
 
 pub listFrom-enlist : (fs : List Formula) (es : List Entry) → listFrom fs es ≡ enlist fs (unskipped es)
 unfolding listFrom enlist unskipped
 listFrom-enlist fs [] = refl
 listFrom-enlist fs (e ∷ rest) =
-    let now = local [] (formulaIn (e .sentence)) in
+    let now = weakenedBases [] (formulaIn (e .sentence)) in
     listFrom-enlist (enlist fs now) rest ∙ sym (enlist-append fs now (unskipped rest))
 
 pub listFrom-begins : (fs : List Formula) (es : List Entry) → Begins fs (listFrom fs es)
@@ -135,7 +135,7 @@ listFrom-only fs es m = enlist-only fs (unskipped es) (rw (listFrom-enlist fs es
 pub listFrom-append : (fs : List Formula) (es more : List Entry) → listFrom fs (es ++ more) ≡ listFrom (listFrom fs es) more
 unfolding listFrom
 listFrom-append fs [] more = refl
-listFrom-append fs (e ∷ es) more = listFrom-append (enlist fs (local [] (formulaIn (e .sentence)))) es more
+listFrom-append fs (e ∷ es) more = listFrom-append (enlist fs (weakenedBases [] (formulaIn (e .sentence)))) es more
 
 pub listOf-has : (entries : List Entry) {x : Formula} → List·Memᴰ x (unskipped entries) → List·Memᴰ x (listOf entries)
 unfolding listOf
@@ -146,13 +146,13 @@ unfolding listOf
 listOf-only entries m = ⊎-elim (λ none. absurd (List·Memᴰ·not-nil none)) (λ some. some) (listFrom-only [] entries m)
 
 -- every formula's own weaker forms are among what it asks to be listed
-pub local-self : (p : Prefix) (x : Formula) {v : Prefix} → Weaker v p → List·Memᴰ (wrap v x) (local p x)
-unfolding local wrap
-local-self p True h = weakened-mem True h
-local-self p (name a) h = weakened-mem (name a) h
-local-self p (and x y) h = Memᴰ·append-left (local p x ++ local p y) (weakened-mem (and x y) h)
-local-self p (implies x y) h = Memᴰ·append-left (local p x ++ local p y) (weakened-mem (implies x y) h)
-local-self p (quoted q x) h = local-self (q ∷ p) x (kept q h)
+pub bases-self : (p : Prefix) (x : Formula) {v : Prefix} → Weaker v p → List·Memᴰ (wrap v x) (weakenedBases p x)
+unfolding weakenedBases wrap
+bases-self p True h = weakened-mem True h
+bases-self p (name a) h = weakened-mem (name a) h
+bases-self p (and x y) h = Memᴰ·append-left (weakenedBases p x ++ weakenedBases p y) (weakened-mem (and x y) h)
+bases-self p (implies x y) h = Memᴰ·append-left (weakenedBases p x ++ weakenedBases p y) (weakened-mem (implies x y) h)
+bases-self p (quoted q x) h = bases-self (q ∷ p) x (unchanged q h)
 
 -- the parts that a shape shows stand in a row
 abbrev pub PartsIn : List Formula → Shape → Type 0
@@ -211,11 +211,11 @@ base-closed p x {fs} its-parts rest =
         (rw (found .1 .1, shape-wrap) (its-parts (found .0) (found .1 .0)))
 
 operands-local : (p : Prefix) (x y : Formula) {v : Prefix} → Weaker v p
-    → List·Memᴰ (wrap v x) (local p x ++ local p y) × List·Memᴰ (wrap v y) (local p x ++ local p y)
-operands-local p x y h = (Memᴰ·append-left (local p y) (local-self p x h), Memᴰ·append-right (local p x) (local-self p y h))
+    → List·Memᴰ (wrap v x) (weakenedBases p x ++ weakenedBases p y) × List·Memᴰ (wrap v y) (weakenedBases p x ++ weakenedBases p y)
+operands-local p x y h = (Memᴰ·append-left (weakenedBases p y) (bases-self p x h), Memᴰ·append-right (weakenedBases p x) (bases-self p y h))
 
-local-closed : (p : Prefix) (x : Formula) → ShapeClosed (local p x)
-unfolding local coreOf shapeUnder
+local-closed : (p : Prefix) (x : Formula) → ShapeClosed (weakenedBases p x)
+unfolding weakenedBases coreOf shapeUnder
 local-closed p True = rw (← append-nil (weakened p True)) (base-closed p True (λ v h. tt) nil-closed)
 local-closed p (name a) = rw (← append-nil (weakened p (name a))) (base-closed p (name a) (λ v h. tt) nil-closed)
 local-closed p (and x y) =
@@ -273,10 +273,10 @@ list-closed entries = shapes-prefixes (list-shape-closed entries)
 
 -- what stands on a line is listed
 line-unskipped : (s : Sentence) (rest : List Formula) {x : Formula} → (x ≡ formulaIn s) ⊎ List·Memᴰ x rest
-    → List·Memᴰ x (local [] (formulaIn s) ++ rest)
+    → List·Memᴰ x (weakenedBases [] (formulaIn s) ++ rest)
 unfolding wrap
-line-unskipped s rest (inl e) = Memᴰ·cast e (Memᴰ·append-left rest (local-self [] (formulaIn s) end))
-line-unskipped s rest (inr m) = Memᴰ·append-right (local [] (formulaIn s)) m
+line-unskipped s rest (inl e) = Memᴰ·cast e (Memᴰ·append-left rest (bases-self [] (formulaIn s) end))
+line-unskipped s rest (inr m) = Memᴰ·append-right (weakenedBases [] (formulaIn s)) m
 
 first-hypothesis : (s : Sentence) (rest : List Formula) {x : Formula}
     → List·Memᴰ x (elim s [ hypothesis y ↦ y ∷ rest | query y ↦ rest ]) → (x ≡ formulaIn s) ⊎ List·Memᴰ x rest
@@ -367,7 +367,7 @@ code5From-passed : (fs : List Formula) (es : List Entry) → length fs ≤ mostL
 unfolding code5From listFrom
 code5From-passed fs [] few h = few
 code5From-passed fs (e ∷ rest) few h =
-    let now = enlist fs (local [] (formulaIn (e .sentence))) in
+    let now = enlist fs (weakenedBases [] (formulaIn (e .sentence))) in
     let both = when-passed (ltb mostListed (length now)) 5 (e .start) h in
     code5From-passed now rest (ltb-false mostListed (length now) (both .0)) (both .1)
 
@@ -375,7 +375,7 @@ passed-code5From : (fs : List Formula) (es : List Entry) → length (listFrom fs
 unfolding code5From listFrom andThen when
 passed-code5From fs [] h = refl
 passed-code5From fs (e ∷ rest) h =
-    let now = enlist fs (local [] (formulaIn (e .sentence))) in
+    let now = enlist fs (weakenedBases [] (formulaIn (e .sentence))) in
     let few = le-trans (begins-shorter (listFrom-begins now rest)) h in
     rw (le-ltb mostListed (length now) few) (passed-code5From now rest h)
 

@@ -9,7 +9,7 @@ use mathlib.Core.Bool.{Bool, true, false, cond, _&&_, false≢true}
 use mathlib.Core.List.{List, [], _∷_, reverseAux, reverse, List·Memᴰ}
 use Rattle.infon.specs.Formula.{Quotation, Formula, True, name, and, implies, quoted}
 use Rattle.infon.specs.Listing.{Prefix, wrap}
-use Rattle.infon.specs.Calculus.{under, Weaker, end, kept, lowered, Derives, hypothesis, given, weaken, left, right, both, apply, attach}
+use Rattle.infon.specs.Calculus.{under, Weaker, end, unchanged, lowered, Derives, hypothesis, given, weaken, left, right, both, apply, attach}
 use Rattle.infon.proofs.Rows.{and-true, true-and, decided}
 
 -- what is on the list, with its parts and everything weaker
@@ -18,7 +18,7 @@ pub record Closed (listed : Formula → Bool) : Type 0 where
   pub and-right : (w : Prefix) (x y : Formula) → listed (wrap w (and x y)) ≡ true → listed (wrap w y) ≡ true
   pub implies-left : (w : Prefix) (x y : Formula) → listed (wrap w (implies x y)) ≡ true → listed (wrap w x) ≡ true
   pub implies-right : (w : Prefix) (x y : Formula) → listed (wrap w (implies x y)) ≡ true → listed (wrap w y) ≡ true
-  pub weaker : (v w : Prefix) (x : Formula) → Weaker v w → listed (wrap w x) ≡ true → listed (wrap v x) ≡ true
+  pub weaker-listed : (v w : Prefix) (x : Formula) → Weaker v w → listed (wrap w x) ≡ true → listed (wrap v x) ≡ true
 
 -- what is recorded, with everything listed that a rule gives from it
 pub record Complete (hyps : List Formula) (listed recorded : Formula → Bool) : Type 0 where
@@ -116,8 +116,8 @@ module _ (hyps : List Formula) (listed recorded : Formula → Bool) (closed : Cl
   value-both w x y vx vy =
       ⊎-elim
       (λ l.
-        recorded-value w (and x y) l
-        (complete .by-both w x y (value-recorded w x (closed .and-left w x y l) vx) (value-recorded w y (closed .and-right w x y l) vy) l))
+      recorded-value w (and x y) l
+      (complete .by-both w x y (value-recorded w x (closed .and-left w x y l) vx) (value-recorded w y (closed .and-right w x y l) vy) l))
       (λ u. value-and w x y u ∙ true-and vx vy)
       (decided (listed (wrap w (and x y))))
 
@@ -126,9 +126,9 @@ module _ (hyps : List Formula) (listed recorded : Formula → Bool) (closed : Cl
   value-apply w x y vx v =
       ⊎-elim
       (λ l.
-        let ly = closed .implies-right w x y l in
-        recorded-value w y ly
-        (complete .by-apply w x y (value-recorded w x (closed .implies-left w x y l) vx) (value-recorded w (implies x y) l v) ly))
+      let ly = closed .implies-right w x y l in
+      recorded-value w y ly
+      (complete .by-apply w x y (value-recorded w x (closed .implies-left w x y l) vx) (value-recorded w (implies x y) l v) ly))
       (λ u. sym (value-implies w x y u) ∙ v)
       (decided (listed (wrap w (implies x y))))
 
@@ -136,8 +136,8 @@ module _ (hyps : List Formula) (listed recorded : Formula → Bool) (closed : Cl
   value-attach w x y vy =
       ⊎-elim
       (λ l.
-        recorded-value w (implies x y) l
-        (complete .by-attach w x y (value-recorded w y (closed .implies-right w x y l) vy) l))
+      recorded-value w (implies x y) l
+      (complete .by-attach w x y (value-recorded w y (closed .implies-right w x y l) vy) l))
       (λ u. value-implies w x y u ∙ vy)
       (decided (listed (wrap w (implies x y))))
 
@@ -148,25 +148,25 @@ module _ (hyps : List Formula) (listed recorded : Formula → Bool) (closed : Cl
   value-weaken v w (name a) le h =
       ⊎-elim
       (λ l.
-        let lv = closed .weaker v w (name a) le l in
-        recorded-value v (name a) lv (complete .by-weaken v w (name a) le (value-recorded w (name a) l h) lv))
+      let lv = closed .weaker-listed v w (name a) le l in
+      recorded-value v (name a) lv (complete .by-weaken v w (name a) le (value-recorded w (name a) l h) lv))
       (λ (u : listed (wrap w (name a)) ≡ false).
-        absurd (false≢true (sym (cond-false (listed (wrap w (name a))) (recorded (wrap w (name a))) false u) ∙ h)))
+      absurd (false≢true (sym (cond-false (listed (wrap w (name a))) (recorded (wrap w (name a))) false u) ∙ h)))
       (decided (listed (wrap w (name a))))
   value-weaken v w (and x y) le h =
       value-both v x y (value-weaken v w x le (value-left w x y h)) (value-weaken v w y le (value-right w x y h))
   value-weaken v w (implies x y) le h =
       ⊎-elim
       (λ l.
-        let lv = closed .weaker v w (implies x y) le l in
-        recorded-value v (implies x y) lv (complete .by-weaken v w (implies x y) le (value-recorded w (implies x y) l h) lv))
+      let lv = closed .weaker-listed v w (implies x y) le l in
+      recorded-value v (implies x y) lv (complete .by-weaken v w (implies x y) le (value-recorded w (implies x y) l h) lv))
       (λ u. value-attach v x y (value-weaken v w y le (sym (value-implies w x y u) ∙ h)))
       (decided (listed (wrap w (implies x y))))
-  value-weaken v w (quoted q x) le h = value-weaken (q ∷ v) (q ∷ w) x (kept q le) h
+  value-weaken v w (quoted q x) le h = value-weaken (q ∷ v) (q ∷ w) x (unchanged q le) h
 
   weaker-onto : {v w : Prefix} {low high : List Quotation} → Weaker v w → Weaker low high → Weaker (reverseAux low v) (reverseAux high w)
   weaker-onto le end = le
-  weaker-onto le (kept q rest) = weaker-onto (kept q le) rest
+  weaker-onto le (unchanged q rest) = weaker-onto (unchanged q le) rest
   weaker-onto le (lowered p rest) = weaker-onto (lowered p le) rest
 
   derives-value : (z : Formula) → Derives hyps z → value listed recorded [] z ≡ true
@@ -175,22 +175,22 @@ module _ (hyps : List Formula) (listed recorded : Formula → Bool) (closed : Cl
   derives-value z (given pref n) = value-under [] pref True ∙ value-given (reverse pref)
   derives-value z (weaken low high x le d) =
       value-under [] low x
-        ∙ value-weaken (reverse low) (reverse high) x (weaker-onto end le) (sym (value-under [] high x) ∙ derives-value (under high x) d)
+      ∙ value-weaken (reverse low) (reverse high) x (weaker-onto end le) (sym (value-under [] high x) ∙ derives-value (under high x) d)
   derives-value z (left pref x y d) =
       value-under [] pref x ∙ value-left (reverse pref) x y (sym (value-under [] pref (and x y)) ∙ derives-value (under pref (and x y)) d)
   derives-value z (right pref x y d) =
       value-under [] pref y ∙ value-right (reverse pref) x y (sym (value-under [] pref (and x y)) ∙ derives-value (under pref (and x y)) d)
   derives-value z (both pref x y d e) =
       value-under [] pref (and x y)
-        ∙ value-both (reverse pref) x y (sym (value-under [] pref x) ∙ derives-value (under pref x) d)
-        (sym (value-under [] pref y) ∙ derives-value (under pref y) e)
+      ∙ value-both (reverse pref) x y (sym (value-under [] pref x) ∙ derives-value (under pref x) d)
+      (sym (value-under [] pref y) ∙ derives-value (under pref y) e)
   derives-value z (apply pref x y d e) =
       value-under [] pref y
-        ∙ value-apply (reverse pref) x y (sym (value-under [] pref x) ∙ derives-value (under pref x) d)
-        (sym (value-under [] pref (implies x y)) ∙ derives-value (under pref (implies x y)) e)
+      ∙ value-apply (reverse pref) x y (sym (value-under [] pref x) ∙ derives-value (under pref x) d)
+      (sym (value-under [] pref (implies x y)) ∙ derives-value (under pref (implies x y)) e)
   derives-value z (attach pref x y n d) =
       value-under [] pref (implies x y)
-        ∙ value-attach (reverse pref) x y (sym (value-under [] pref y) ∙ derives-value (under pref y) d)
+      ∙ value-attach (reverse pref) x y (sym (value-under [] pref y) ∙ derives-value (under pref y) d)
 
   -- a listed formula that is derivable is recorded
   pub derivable-recorded : (z : Formula) → listed z ≡ true → Derives hyps z → recorded z ≡ true

@@ -14,10 +14,11 @@ use lib.Dec.{eqb}
 use lib.Seq.{drop-cons}
 use borrow.Author.Tests.{eq-eqb, ne-eqb, ltb-true}
 use Rattle.infon.specs.declared.Record.{Record}
-use Rattle.infon.specs.Bytes.{some-of}
+use Rattle.infon.specs.Bytes.{someOf}
 use Rattle.infon.specs.Formula.{Formula, True}
 use Rattle.infon.specs.Calculus.{Derives}
-use Rattle.infon.specs.Journal.{numbered, isRecorded, isGood, numbersFrom, next, isFinished, hasNone, followed, grown}
+use Rattle.infon.specs.Rules.{numbered}
+use Rattle.infon.specs.Journal.{isRecorded, isGood, numbersFrom, next, isFinished, hasNone, followed, grown}
 use Rattle.infon.specs.Run.{Missing, no-more, recorded, underivable, missing}
 use Rattle.infon.proofs.Rows.{decided}
 use Rattle.infon.proofs.Counting.{countOf, count-passed, count-failed, count-alike, count-at-most, count-none, count-all, count-gained, from-has, from-above, from-length}
@@ -25,11 +26,11 @@ use Rattle.infon.proofs.Grown.{GoodRow, stop, more, grown-good, good-ap
 use Rattle.infon.proofs.Sound.{Sound, good-is, good-derives, premise-derived, sound-more, sound-row, sound-empty}
 use Rattle.infon.proofs.Finished.{List-of, derivable-recorded-number}
 
-some-of-append : {A : Type 0} (test : A → Bool) (xs ys : List A) → some-of test (xs ++ ys) ≡ some-of test xs || some-of test ys
-unfolding some-of
-some-of-append test [] ys = refl
-some-of-append test (x ∷ xs) ys =
-    ap (λ (b : Bool). test x || b) (some-of-append test xs ys) ∙ sym (or-assoc (test x) (some-of test xs) (some-of test ys))
+someOf-append : {A : Type 0} (test : A → Bool) (xs ys : List A) → someOf test (xs ++ ys) ≡ someOf test xs || someOf test ys
+unfolding someOf
+someOf-append test [] ys = refl
+someOf-append test (x ∷ xs) ys =
+    ap (λ (b : Bool). test x || b) (someOf-append test xs ys) ∙ sym (or-assoc (test x) (someOf test xs) (someOf test ys))
 
 count-nothing : (ns : List ℕ) → countOf (λ (n : ℕ). false) ns ≡ 0
 unfolding countOf
@@ -37,20 +38,20 @@ count-nothing [] = refl
 count-nothing (n ∷ rest) = count-nothing rest
 
 recorded-more : (n : ℕ) (done : List Record) (r : Record) → isRecorded n (done ++ (r ∷ [])) ≡ isRecorded n done || eqb n (r .formula)
-unfolding isRecorded some-of
+unfolding isRecorded someOf
 recorded-more n done r =
-    some-of-append (λ (s : Record). eqb n (s .formula)) done (r ∷ [])
-      ∙ ap (λ (b : Bool). some-of (λ (s : Record). eqb n (s .formula)) done || b) (or-false (eqb n (r .formula)))
+    someOf-append (λ (s : Record). eqb n (s .formula)) done (r ∷ [])
+    ∙ ap (λ (b : Bool). someOf (λ (s : Record). eqb n (s .formula)) done || b) (or-false (eqb n (r .formula)))
 
 recorded-now : (done : List Record) (r : Record) → isRecorded (r .formula) (done ++ (r ∷ [])) ≡ true
 recorded-now done r =
     recorded-more (r .formula) done r
-      ∙ (ap (λ (b : Bool). isRecorded (r .formula) done || b) (eq-eqb (r .formula) (r .formula) refl) ∙ or-true (isRecorded (r .formula) done))
+    ∙ (ap (λ (b : Bool). isRecorded (r .formula) done || b) (eq-eqb (r .formula) (r .formula) refl) ∙ or-true (isRecorded (r .formula) done))
 
 recorded-other : (n : ℕ) (done : List Record) (r : Record) → (n ≡ r .formula → ⊥) → isRecorded n (done ++ (r ∷ [])) ≡ isRecorded n done
 recorded-other n done r apart =
     recorded-more n done r
-      ∙ (ap (λ (b : Bool). isRecorded n done || b) (ne-eqb n (r .formula) apart) ∙ or-false (isRecorded n done))
+    ∙ (ap (λ (b : Bool). isRecorded n done || b) (ne-eqb n (r .formula) apart) ∙ or-false (isRecorded n done))
 
 full-or-short : {m n : ℕ} → m ≤ n → (n ≡ m) ⊎ (m < n)
 full-or-short h = ⊎-elim (λ e. inl (sym e)) (λ l. inr l) (eq-or-lt-of-le h)
@@ -77,7 +78,7 @@ module _ (hyps fs : List Formula) where
       omega arith
 
   none-recorded : recordedCount [] ≡ 0
-  unfolding recordedCount isRecorded some-of
+  unfolding recordedCount isRecorded someOf
   none-recorded = count-nothing (numbersFrom 0 (length fs))
 
   -- a row of good records never has more than L records
@@ -106,15 +107,15 @@ module _ (hyps fs : List Formula) where
       let added = grown hyps fs done (length fs) in
       ⊎-elim
       (λ (long : length fs ≡ length added).
-        let count = row-count [] (done ++ added) (good-append hyps fs [] done added row (grown-good hyps fs done (length fs))) in
-        let sum = length-append done added in
-        let size = from-length 0 (length fs) in
-        let full = count-all (λ (n : ℕ). isRecorded n (done ++ added)) (numbersFrom 0 (length fs)) (omega arith) in
-        ⊎-elim (λ finished. finished)
-        (λ due.
-          let good = good-is hyps fs (done ++ added) (due .0) (next-good hyps fs (done ++ added) (due .0) (due .1)) in
-          absurd (false≢true (sym (good .fresh) ∙ full (due .0 .formula) (from-has 0 (length fs) (due .0 .formula) (omega arith) (let low = good .below in omega arith)))))
-        (finished-or-next (done ++ added)))
+      let count = row-count [] (done ++ added) (good-append hyps fs [] done added row (grown-good hyps fs done (length fs))) in
+      let sum = length-append done added in
+      let size = from-length 0 (length fs) in
+      let full = count-all (λ (n : ℕ). isRecorded n (done ++ added)) (numbersFrom 0 (length fs)) (omega arith) in
+      ⊎-elim (λ finished. finished)
+      (λ due.
+      let good = good-is hyps fs (done ++ added) (due .0) (next-good hyps fs (done ++ added) (due .0) (due .1)) in
+      absurd (false≢true (sym (good .fresh) ∙ full (due .0 .formula) (from-has 0 (length fs) (due .0 .formula) (omega arith) (let low = good .below in omega arith)))))
+      (finished-or-next (done ++ added)))
       (λ (short : length added < length fs). grown-finished hyps fs done (length fs) short)
       (full-or-short (grown-short hyps fs done (length fs)))
 
@@ -153,13 +154,13 @@ module _ (hyps fs : List Formula) (lists : List-of hyps fs) where
   none-missing done sound finished =
       count-alike (isMissing done) (λ (n : ℕ). false) (numbersFrom 0 (length fs))
       (λ n m.
-        let low : n < length fs = let b = from-above 0 (length fs) n m in omega arith in
-        ⊎-elim
-        (λ (yes : isRecorded n final ≡ true).
-          rw (yes, derivable-recorded-number hyps fs lists done n sound finished low (premise-derived hyps fs final n final-sound yes)))
-        (λ (other : isRecorded n final ≡ false). rw other)
-        (decided (isRecorded n final)))
-        ∙ count-nothing (numbersFrom 0 (length fs))
+      let low : n < length fs = let b = from-above 0 (length fs) n m in omega arith in
+      ⊎-elim
+      (λ (yes : isRecorded n final ≡ true).
+      rw (yes, derivable-recorded-number hyps fs lists done n sound finished low (premise-derived hyps fs final n final-sound yes)))
+      (λ (other : isRecorded n final ≡ false). rw other)
+      (decided (isRecorded n final)))
+      ∙ count-nothing (numbersFrom 0 (length fs))
 
   one-less : (done : List Record) (r : Record) → Sound hyps fs done → isGood hyps fs done r ≡ true
       → missingCount done ≡ suc (missingCount (done ++ (r ∷ [])))
@@ -177,14 +178,14 @@ module _ (hyps fs : List Formula) (lists : List-of hyps fs) where
   grown-count done (suc n) sound =
       ⊎-elim
       (λ finished.
-        ap length (finished-grown hyps fs done (suc n) finished)
-          ∙ sym (ap (min (suc n)) (none-missing done sound finished) ∙ min-zero (suc n)))
+      ap length (finished-grown hyps fs done (suc n) finished)
+      ∙ sym (ap (min (suc n)) (none-missing done sound finished) ∙ min-zero (suc n)))
       (λ due.
-        let r = due .0 in
-        let h = next-good hyps fs done r (due .1) in
-        ap length (grown-next hyps fs done n r (due .1))
-          ∙ (ap suc (grown-count (done ++ (r ∷ [])) n (sound-more hyps fs (lists .named) done r sound h))
-          ∙ (sym (suc-min-suc n (missingCount (done ++ (r ∷ [])))) ∙ ap (min (suc n)) (sym (one-less done r sound h)))))
+      let r = due .0 in
+      let h = next-good hyps fs done r (due .1) in
+      ap length (grown-next hyps fs done n r (due .1))
+      ∙ (ap suc (grown-count (done ++ (r ∷ [])) n (sound-more hyps fs (lists .named) done r sound h))
+      ∙ (sym (suc-min-suc n (missingCount (done ++ (r ∷ [])))) ∙ ap (min (suc n)) (sym (one-less done r sound h)))))
       (finished-or-next hyps fs done)
 
   next-at : (i : ℕ) (x : Formula) (rest : List Formula) → ((k : ℕ) → k < length (x ∷ rest) → numbered (x ∷ rest) k ≡ numbered fs (i + k))
@@ -205,19 +206,19 @@ module _ (hyps fs : List Formula) (lists : List-of hyps fs) where
   missing-counted done i rest m at size (no-more j) = refl
   missing-counted done i rest m at size (recorded j x later k h tail) =
       missing-counted done (suc i) later k (next-at i x later at) (omega arith) tail
-        ∙ sym (count-failed (isMissing done) i (numbersFrom (suc i) (length later)) (rw h (and-false (isRecorded i final))))
+      ∙ sym (count-failed (isMissing done) i (numbersFrom (suc i) (length later)) (rw h (and-false (isRecorded i final))))
   missing-counted done i rest m at size (underivable j x later k h tail) =
       missing-counted done (suc i) later k (next-at i x later at) (omega arith) tail
-        ∙ sym (count-failed (isMissing done) i (numbersFrom (suc i) (length later))
-        (⊎-elim
-        (λ (yes : isRecorded i final ≡ true).
-          absurd (h (subst (Derives hyps) (sym (here-at i x later at)) (premise-derived hyps fs final i final-sound yes))))
-        (λ (other : isRecorded i final ≡ false). rw other)
-        (decided (isRecorded i final))))
+      ∙ sym (count-failed (isMissing done) i (numbersFrom (suc i) (length later))
+      (⊎-elim
+      (λ (yes : isRecorded i final ≡ true).
+      absurd (h (subst (Derives hyps) (sym (here-at i x later at)) (premise-derived hyps fs final i final-sound yes))))
+      (λ (other : isRecorded i final ≡ false). rw other)
+      (decided (isRecorded i final))))
   missing-counted done i rest m at size (missing j x later k fresh d tail) =
       ap suc (missing-counted done (suc i) later k (next-at i x later at) (omega arith) tail)
-        ∙ sym (count-passed (isMissing done) i (numbersFrom (suc i) (length later))
-        (rw (derivable-final i (omega arith) (subst (Derives hyps) (here-at i x later at) d), fresh)))
+      ∙ sym (count-passed (isMissing done) i (numbersFrom (suc i) (length later))
+      (rw (derivable-final i (omega arith) (subst (Derives hyps) (here-at i x later at) d), fresh)))
 
   some-missing : (done : List Record) (i : ℕ) (rest : List Formula)
       → ((k : ℕ) → k < length rest → numbered rest k ≡ numbered fs (i + k)) → i + length rest ≡ length fs
@@ -228,24 +229,22 @@ module _ (hyps fs : List Formula) (lists : List-of hyps fs) where
       ⊎-elim
       (λ (yes : isRecorded i done ≡ true). (later .0, recorded i x rest (later .0) yes (later .1)))
       (λ (fresh : isRecorded i done ≡ false).
-        ⊎-elim
-        (λ (derived : isRecorded i final ≡ true).
-          (
-            suc (later .0),
-            missing i x rest (later .0) fresh
+      ⊎-elim
+      (λ (derived : isRecorded i final ≡ true). (
+        suc (later .0),
+        missing i x rest (later .0) fresh
             (subst (Derives hyps) (sym (here-at i x rest at)) (premise-derived hyps fs final i final-sound derived))
             (later .1),
-          ))
-        (λ (other : isRecorded i final ≡ false).
-          (
-            later .0,
-            underivable i x rest (later .0)
+      ))
+      (λ (other : isRecorded i final ≡ false). (
+        later .0,
+        underivable i x rest (later .0)
             (λ d.
-              false≢true
-              (sym other ∙ derivable-final i (omega arith) (subst (Derives hyps) (here-at i x rest at) d)))
+            false≢true
+            (sym other ∙ derivable-final i (omega arith) (subst (Derives hyps) (here-at i x rest at) d)))
             (later .1),
-          ))
-        (decided (isRecorded i final)))
+      ))
+      (decided (isRecorded i final)))
       (decided (isRecorded i done))
 
   -- some number is missing, and a run adds the smaller of its limit and that number
@@ -257,4 +256,4 @@ module _ (hyps fs : List Formula) (lists : List-of hyps fs) where
   unfolding missingCount
   adds-smaller done n m row h =
       grown-count done n (row-sound done row)
-        ∙ ap (min n) (sym (missing-counted done 0 fs m (λ k low. ap (numbered fs) (omega arith)) (omega arith) h))
+      ∙ ap (min n) (sym (missing-counted done 0 fs m (λ k low. ap (numbered fs) (omega arith)) (omega arith) h))

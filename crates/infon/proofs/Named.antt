@@ -8,9 +8,9 @@ use mathlib.Core.Option.{Option, none, some}
 use mathlib.Core.List.{List, [], _∷_, _++_, List·Memᴰ, List·Memᴰ·head, List·Memᴰ·tail, List·Memᴰ·not-nil, List·Memᴰ·cases-cons, List·Memᴰ·append-cases}
 use Rattle.infon.specs.Bytes.{every}
 use Rattle.infon.specs.Formula.{Quotation, Formula, True, name, and, implies, quoted, isName, isNamed}
-use Rattle.infon.specs.Policy.{Line, Sentence, Entry, entry, entriesFrom, entriesOf, linesOf, sentenceOf, formulaIn}
-use Rattle.infon.specs.Listing.{Prefix, wrap, weakened, local, listOf}
-use Rattle.infon.specs.Calculus.{Weaker, end, kept, lowered}
+use Rattle.infon.specs.Policy.{Line, Sentence, Entry, withEntry, entriesFrom, entriesOf, linesOf, sentenceOf, formulaIn}
+use Rattle.infon.specs.Listing.{Prefix, wrap, weakened, weakenedBases, listOf}
+use Rattle.infon.specs.Calculus.{Weaker, end, unchanged, lowered}
 use Rattle.infon.proofs.Rows.{and-true, true-and}
 use Rattle.infon.proofs.Prefixes.{mem-weakened}
 use Rattle.infon.proofs.Lines.{line-read}
@@ -23,7 +23,7 @@ principalsNamed w = every (λ (q : Quotation). isName (q .principal)) w
 weaker-named : {v w : Prefix} → Weaker v w → principalsNamed w ≡ true → principalsNamed v ≡ true
 unfolding principalsNamed every
 weaker-named end h = refl
-weaker-named (kept q le) h = let parts = and-true (isName (q .principal)) _ h in true-and (parts .0) (weaker-named le (parts .1))
+weaker-named (unchanged q le) h = let parts = and-true (isName (q .principal)) _ h in true-and (parts .0) (weaker-named le (parts .1))
 weaker-named (lowered p le) h = let parts = and-true (isName p) _ h in true-and (parts .0) (weaker-named le (parts .1))
 
 wrap-named : (w : Prefix) (x : Formula) → principalsNamed w ≡ true → isNamed x ≡ true → isNamed (wrap w x) ≡ true
@@ -38,35 +38,35 @@ weakened-named p b z hp hb m =
     let found = mem-weakened p b m in
     ap isNamed (found .1 .1) ∙ wrap-named (found .0) b (weaker-named (found .1 .0) hp) hb
 
-local-named : (p : Prefix) (x z : Formula) → principalsNamed p ≡ true → isNamed x ≡ true → List·Memᴰ z (local p x) → isNamed z ≡ true
-unfolding local isNamed principalsNamed every
-local-named p True z hp hx m = weakened-named p True z hp hx m
-local-named p (name a) z hp hx m = weakened-named p (name a) z hp hx m
-local-named p (and x y) z hp hx m =
+bases-named : (p : Prefix) (x z : Formula) → principalsNamed p ≡ true → isNamed x ≡ true → List·Memᴰ z (weakenedBases p x) → isNamed z ≡ true
+unfolding weakenedBases isNamed principalsNamed every
+bases-named p True z hp hx m = weakened-named p True z hp hx m
+bases-named p (name a) z hp hx m = weakened-named p (name a) z hp hx m
+bases-named p (and x y) z hp hx m =
     let parts = and-true (isNamed x) (isNamed y) hx in
     ⊎-elim (λ i. weakened-named p (and x y) z hp hx i)
     (λ i.
-      ⊎-elim (λ (j : List·Memᴰ z (local p x)). local-named p x z hp (parts .0) j)
-      (λ (j : List·Memᴰ z (local p y)). local-named p y z hp (parts .1) j)
-      (List·Memᴰ·append-cases (local p x) i))
+    ⊎-elim (λ (j : List·Memᴰ z (weakenedBases p x)). bases-named p x z hp (parts .0) j)
+    (λ (j : List·Memᴰ z (weakenedBases p y)). bases-named p y z hp (parts .1) j)
+    (List·Memᴰ·append-cases (weakenedBases p x) i))
     (List·Memᴰ·append-cases (weakened p (and x y)) m)
-local-named p (implies x y) z hp hx m =
+bases-named p (implies x y) z hp hx m =
     let parts = and-true (isNamed x) (isNamed y) hx in
     ⊎-elim (λ i. weakened-named p (implies x y) z hp hx i)
     (λ i.
-      ⊎-elim (λ (j : List·Memᴰ z (local p x)). local-named p x z hp (parts .0) j)
-      (λ (j : List·Memᴰ z (local p y)). local-named p y z hp (parts .1) j)
-      (List·Memᴰ·append-cases (local p x) i))
+    ⊎-elim (λ (j : List·Memᴰ z (weakenedBases p x)). bases-named p x z hp (parts .0) j)
+    (λ (j : List·Memᴰ z (weakenedBases p y)). bases-named p y z hp (parts .1) j)
+    (List·Memᴰ·append-cases (weakenedBases p x) i))
     (List·Memᴰ·append-cases (weakened p (implies x y)) m)
-local-named p (quoted q x) z hp hx m =
+bases-named p (quoted q x) z hp hx m =
     let parts = and-true (isName (q .principal)) (isNamed x) hx in
-    local-named (q ∷ p) x z (true-and (parts .0) hp) (parts .1) m
+    bases-named (q ∷ p) x z (true-and (parts .0) hp) (parts .1) m
 
 -- the formulas of a file's entries are of the language
 entry-named : (start : ℕ) (text : List ℕ) (o : Option Sentence) (rest : List Entry) → sentenceOf text ≡ o
     → ((e : Entry) → List·Memᴰ e rest → isNamed (formulaIn (e .sentence)) ≡ true)
-    → (e : Entry) → List·Memᴰ e (entry start o rest) → isNamed (formulaIn (e .sentence)) ≡ true
-unfolding entry
+    → (e : Entry) → List·Memᴰ e (withEntry start o rest) → isNamed (formulaIn (e .sentence)) ≡ true
+unfolding withEntry
 entry-named start text none rest read later e m = later e m
 entry-named start text (some s) rest read later e m =
     ⊎-elim (λ same. ap (λ (f : Entry). isNamed (formulaIn (f .sentence))) same ∙ line-read text s read .1)
@@ -85,10 +85,10 @@ unfolding unskipped principalsNamed every
 unskipped-named [] named z m = absurd (List·Memᴰ·not-nil m)
 unskipped-named (e ∷ rest) named z m =
     ⊎-elim
-    (λ (i : List·Memᴰ z (local [] (formulaIn (e .sentence)))).
-      local-named [] (formulaIn (e .sentence)) z refl (named e (List·Memᴰ·head refl)) i)
+    (λ (i : List·Memᴰ z (weakenedBases [] (formulaIn (e .sentence)))).
+    bases-named [] (formulaIn (e .sentence)) z refl (named e (List·Memᴰ·head refl)) i)
     (λ (i : List·Memᴰ z (unskipped rest)). unskipped-named rest (λ f j. named f (List·Memᴰ·tail j)) z i)
-    (List·Memᴰ·append-cases (local [] (formulaIn (e .sentence))) m)
+    (List·Memᴰ·append-cases (weakenedBases [] (formulaIn (e .sentence))) m)
 
 pub listed-named : (file : List ℕ) (z : Formula) → List·Memᴰ z (listOf (entriesOf file)) → isNamed z ≡ true
 unfolding entriesOf

@@ -8,36 +8,36 @@ use mathlib.Core.List.{List, [], _∷_, _++_, reverse, reverseAux, List·Memᴰ,
 use mathlib.Core.List.{List·Memᴰ·not-nil, List·Memᴰ·cases-cons, List·Memᴰ·append-cases, List·Memᴰ·eq-of-singleton}
 use mathlib.Core.List.{Memᴰ·cast, Memᴰ·append-left, Memᴰ·append-right, Memᴰ·map, Memᴰ·of-map}
 use Rattle.infon.specs.Formula.{Told, said, put, Quotation, Formula, True, name, and, implies, quoted, same}
-use Rattle.infon.specs.Listing.{Prefix, wrap, weakerTold, inside, insideEach, weaker, weakened, isListed}
-use Rattle.infon.specs.Calculus.{under, Weaker, end, kept, lowered, saidBy, putBy}
-use Rattle.infon.specs.Journal.{Shape, truth, primitive, conjunction, implication, shapeUnder, shapeOf, weakenedUnder, weakenings}
-use Rattle.infon.proofs.Rows.{found-later, some-of-witness, witness-some-of}
+use Rattle.infon.specs.Listing.{Prefix, wrap, weakerTold, inside, insideEach, weakerPrefixes, weakened, isListed}
+use Rattle.infon.specs.Calculus.{under, Weaker, end, unchanged, lowered, saidBy, putBy}
+use Rattle.infon.specs.Rules.{Shape, truth, primitive, conjunction, implication, shapeUnder, shapeOf, prefixUnder, coreOf, weakenings}
+use Rattle.infon.proofs.Rows.{found-later, someOf-witness, witness-someOf}
 use Rattle.infon.proofs.Same.{same-refl, same-eq}
 
 pub listed-mem : (x : Formula) (fs : List Formula) → isListed x fs ≡ true → List·Memᴰ x fs
 unfolding isListed
 listed-mem x fs h =
-    let found = some-of-witness (same x) fs h in
+    let found = someOf-witness (same x) fs h in
     Memᴰ·cast (same-eq x (found .0) (found .1 .1)) (found .1 .0)
 
 pub mem-listed : {x : Formula} {fs : List Formula} → List·Memᴰ x fs → isListed x fs ≡ true
 unfolding isListed
-mem-listed {x} m = witness-some-of (same x) m (same-refl x)
+mem-listed {x} m = witness-someOf (same x) m (same-refl x)
 
 pub weaker-refl : (w : Prefix) → Weaker w w
 weaker-refl [] = end
-weaker-refl (q ∷ outer) = kept q (weaker-refl outer)
+weaker-refl (q ∷ outer) = unchanged q (weaker-refl outer)
 
 pub weaker-trans : {u v w : Prefix} → Weaker u v → Weaker v w → Weaker u w
 weaker-trans end more = more
-weaker-trans (kept q less) (kept r more) = kept q (weaker-trans less more)
-weaker-trans (kept q less) (lowered p more) = lowered p (weaker-trans less more)
-weaker-trans (lowered p less) (kept r more) = lowered p (weaker-trans less more)
+weaker-trans (unchanged q less) (unchanged r more) = unchanged q (weaker-trans less more)
+weaker-trans (unchanged q less) (lowered p more) = lowered p (weaker-trans less more)
+weaker-trans (lowered p less) (unchanged r more) = lowered p (weaker-trans less more)
 
 -- two prefixes, each turned round onto an accumulator
 weaker-reverseAux : {v w a b : Prefix} → Weaker v w → Weaker a b → Weaker (reverseAux v a) (reverseAux w b)
 weaker-reverseAux end done = done
-weaker-reverseAux (kept q more) done = weaker-reverseAux more (kept q done)
+weaker-reverseAux (unchanged q more) done = weaker-reverseAux more (unchanged q done)
 weaker-reverseAux (lowered p more) done = weaker-reverseAux more (lowered p done)
 
 pub weaker-reverse : {v w : Prefix} → Weaker v w → Weaker (reverse v) (reverse w)
@@ -67,10 +67,10 @@ told-itself said = List·Memᴰ·head refl
 told-itself put = List·Memᴰ·head refl
 
 -- `weaker` lists what is `Weaker`, and nothing else
-pub weaker-mem : {v w : Prefix} → Weaker v w → List·Memᴰ v (weaker w)
-unfolding weaker weakerTold
+pub weaker-mem : {v w : Prefix} → Weaker v w → List·Memᴰ v (weakerPrefixes w)
+unfolding weakerPrefixes weakerTold
 weaker-mem end = List·Memᴰ·head refl
-weaker-mem (kept q h) = insideEach-mem q (told-itself (q .told)) (weaker-mem h)
+weaker-mem (unchanged q h) = insideEach-mem q (told-itself (q .told)) (weaker-mem h)
 weaker-mem (lowered p h) =
     insideEach-mem (saidBy p) (List·Memᴰ·tail (List·Memᴰ·head refl)) (weaker-mem h)
 
@@ -95,16 +95,16 @@ mem-insideEach q (outer ∷ rest) v m =
 told-weaker : (told weak : Told) (p : List ℕ) {v w : Prefix} → List·Memᴰ weak (weakerTold told) → Weaker v w
     → Weaker (record { told = weak; principal = p } ∷ v) (record { told = told; principal = p } ∷ w)
 unfolding weakerTold
-told-weaker said said p m h = kept (saidBy p) h
+told-weaker said said p m h = unchanged (saidBy p) h
 told-weaker said put p m h = lowered p h
-told-weaker put said p m h = rw (List·Memᴰ·eq-of-singleton m) (kept (putBy p) h)
-told-weaker put put p m h = kept (putBy p) h
+told-weaker put said p m h = rw (List·Memᴰ·eq-of-singleton m) (unchanged (putBy p) h)
+told-weaker put put p m h = unchanged (putBy p) h
 
-pub mem-weaker : (v w : Prefix) → List·Memᴰ v (weaker w) → Weaker v w
-unfolding weaker
+pub mem-weaker : (v w : Prefix) → List·Memᴰ v (weakerPrefixes w) → Weaker v w
+unfolding weakerPrefixes
 mem-weaker v [] m = rw (List·Memᴰ·eq-of-singleton m) end
 mem-weaker v (q ∷ outer) m =
-    let found = mem-insideEach q (weaker outer) v m in
+    let found = mem-insideEach q (weakerPrefixes outer) v m in
     let first = mem-inside q (weakerTold (q .told)) (found .0) v (found .1 .1) in
     rw (first .1 .1) (told-weaker (q .told) (first .0) (q .principal) (first .1 .0) (mem-weaker (found .0) outer (found .1 .0)))
 
@@ -118,22 +118,7 @@ pub under-wrap : (pref : Prefix) (x : Formula) → under pref x ≡ wrap (revers
 unfolding wrap
 under-wrap pref x = wrap-under [] pref x
 
--- Every formula is its whole row of quotations over its core, which is a base. The row of a formula that stands under a prefix
--- goes on into that prefix.
-unfoldable pub prefixUnder : Prefix → Formula → Prefix
-prefixUnder pref True = pref
-prefixUnder pref (name a) = pref
-prefixUnder pref (and x y) = pref
-prefixUnder pref (implies x y) = pref
-prefixUnder pref (quoted q x) = prefixUnder (q ∷ pref) x
-
-unfoldable pub coreOf : Formula → Formula
-coreOf True = True
-coreOf (name a) = name a
-coreOf (and x y) = and x y
-coreOf (implies x y) = implies x y
-coreOf (quoted q x) = coreOf x
-
+-- every formula is its whole row of quotations over its core
 pub wrap-core : (w : Prefix) (x : Formula) → wrap (prefixUnder w x) (coreOf x) ≡ wrap w x
 unfolding wrap prefixUnder coreOf
 wrap-core w True = refl
@@ -158,14 +143,6 @@ core-core (and x y) = refl
 core-core (implies x y) = refl
 core-core (quoted q x) = core-core x
 
-pub weakened-core : (w : Prefix) (x : Formula) → weakenedUnder w x ≡ weakened (prefixUnder w x) (coreOf x)
-unfolding weakenedUnder prefixUnder coreOf
-weakened-core w True = refl
-weakened-core w (name a) = refl
-weakened-core w (and x y) = refl
-weakened-core w (implies x y) = refl
-weakened-core w (quoted q x) = weakened-core (q ∷ w) x
-
 -- what is read off a formula under a prefix
 pub prefix-wrap : (v w : Prefix) (x : Formula) → prefixUnder w (wrap v x) ≡ prefixUnder (v ++ w) x
 unfolding wrap prefixUnder
@@ -177,8 +154,8 @@ unfolding wrap coreOf
 core-wrap [] x = refl
 core-wrap (q ∷ outer) x = core-wrap outer (quoted q x)
 
-pub weakenings-wrap : (w : Prefix) (x : Formula) → weakenings (wrap w x) ≡ weakenedUnder w x
-unfolding wrap weakenings weakenedUnder
+pub weakenings-wrap : (w : Prefix) (x : Formula) → weakenings (wrap w x) ≡ weakened (prefixUnder w x) (coreOf x)
+unfolding wrap weakenings prefixUnder coreOf
 weakenings-wrap [] x = refl
 weakenings-wrap (q ∷ outer) x = weakenings-wrap outer (quoted q x)
 
@@ -240,7 +217,7 @@ pub mem-weakened : (p : Prefix) (b : Formula) {z : Formula} → List·Memᴰ z (
     → (v : Prefix) × (Weaker v p × (z ≡ wrap v b))
 unfolding weakened
 mem-weakened p b m =
-    let found = Memᴰ·of-map (λ (w : Prefix). wrap w b) (weaker p) m in
+    let found = Memᴰ·of-map (λ (w : Prefix). wrap w b) (weakerPrefixes p) m in
     (found .0, (mem-weaker (found .0) p (found .1), sym (found .2)))
 
 pub weakened-mem : {v p : Prefix} (b : Formula) → Weaker v p → List·Memᴰ (wrap v b) (weakened p b)
@@ -250,7 +227,7 @@ weakened-mem b h = Memᴰ·map (λ (w : Prefix). wrap w b) (weaker-mem h)
 weakenings-core : (a : Formula) {z : Formula} → List·Memᴰ z (weakenings a)
     → (v : Prefix) × (Weaker v (prefixUnder [] a) × (z ≡ wrap v (coreOf a)))
 unfolding weakenings
-weakenings-core a m = mem-weakened (prefixUnder [] a) (coreOf a) (rw (weakened-core [] a) at m)
+weakenings-core a m = mem-weakened (prefixUnder [] a) (coreOf a) m
 
 pub weakenings-weaker : (a : Formula) {z : Formula} → List·Memᴰ z (weakenings a)
     → (v : Prefix) × ((w : Prefix) × ((x : Formula) × (Weaker v w × ((a ≡ wrap w x) × (z ≡ wrap v x)))))
@@ -259,20 +236,20 @@ weakenings-weaker a m =
     let found = weakenings-core a m in
     (found .0, (prefixUnder [] a, (coreOf a, (found .1 .0, (sym (wrap-core [] a), found .1 .1)))))
 
-weakenedUnder-mem : {v w : Prefix} (x : Formula) → Weaker v w → List·Memᴰ (wrap v x) (weakenedUnder w x)
-unfolding wrap weakenedUnder
-weakenedUnder-mem True h = weakened-mem True h
-weakenedUnder-mem (name a) h = weakened-mem (name a) h
-weakenedUnder-mem (and x y) h = weakened-mem (and x y) h
-weakenedUnder-mem (implies x y) h = weakened-mem (implies x y) h
-weakenedUnder-mem (quoted q x) h = weakenedUnder-mem x (kept q h)
+under-weakened-mem : {v w : Prefix} (x : Formula) → Weaker v w → List·Memᴰ (wrap v x) (weakened (prefixUnder w x) (coreOf x))
+unfolding wrap prefixUnder coreOf
+under-weakened-mem True h = weakened-mem True h
+under-weakened-mem (name a) h = weakened-mem (name a) h
+under-weakened-mem (and x y) h = weakened-mem (and x y) h
+under-weakened-mem (implies x y) h = weakened-mem (implies x y) h
+under-weakened-mem (quoted q x) h = under-weakened-mem x (unchanged q h)
 
 pub weaker-weakenings : {v w : Prefix} (x : Formula) → Weaker v w → List·Memᴰ (wrap v x) (weakenings (wrap w x))
-weaker-weakenings {v} {w} x h = rw weakenings-wrap (weakenedUnder-mem x h)
+weaker-weakenings {v} {w} x h = rw weakenings-wrap (under-weakened-mem x h)
 
 -- rule 3 twice is rule 3
 weakenings-core-wrap : (w : Prefix) (x : Formula) → weakenings (wrap w (coreOf x)) ≡ weakened w (coreOf x)
-weakenings-core-wrap w x = rw (weakenings-wrap, weakened-core, prefix-core, core-core)
+weakenings-core-wrap w x = rw (weakenings-wrap, prefix-core, core-core)
 
 pub weakened-twice : (p : Prefix) (x : Formula) {y z : Formula} → List·Memᴰ y (weakened p (coreOf x)) → List·Memᴰ z (weakenings y)
     → List·Memᴰ z (weakened p (coreOf x))

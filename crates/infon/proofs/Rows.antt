@@ -1,4 +1,4 @@
--- Rows and tests: `every`, `some-of` and `first-of` against membership, and tests that hold together.
+-- Rows and tests: `every`, `someOf` and `firstOf` against membership, and tests that hold together.
 -- Assumes nothing.
 use Prim.Native.Nat.{ℕ}
 use mathlib.Core.Path.{_≡_, refl, sym, _∙_, ap, subst}
@@ -10,7 +10,7 @@ use mathlib.Core.List.{List·Memᴰ·head, List·Memᴰ·tail}
 use mathlib.Core.List
 use lib.Dec.{eqb}
 use borrow.Author.Tests.{eqb-true, eq-eqb}
-use Rattle.infon.specs.Bytes.{alike, every, some-of, first-of}
+use Rattle.infon.specs.Bytes.{alike, every, someOf, firstOf}
 
 pub and-true : (a b : Bool) → a && b ≡ true → (a ≡ true) × (b ≡ true)
 and-true true b h = (refl, h)
@@ -52,16 +52,16 @@ pub found-later : {A : Type 0} {P : A → Type 0} {first : A} {xs : List A} → 
 found-later found = (found .0, (List·Memᴰ·tail (found .1 .0), found .1 .1))
 
 module _ {A : Type 0} (test : A → Bool) where
-  pub some-of-witness : (xs : List A) → some-of test xs ≡ true → (x : A) × (List·Memᴰ x xs × (test x ≡ true))
-  unfolding some-of
-  some-of-witness [] h = absurd (false≢true h)
-  some-of-witness (x ∷ xs) h =
+  pub someOf-witness : (xs : List A) → someOf test xs ≡ true → (x : A) × (List·Memᴰ x xs × (test x ≡ true))
+  unfolding someOf
+  someOf-witness [] h = absurd (false≢true h)
+  someOf-witness (x ∷ xs) h =
       ⊎-elim (λ here. (x, (List·Memᴰ·head refl, here)))
-      (λ later. found-later (some-of-witness xs later))
-      (or-true (test x) (some-of test xs) h)
+      (λ later. found-later (someOf-witness xs later))
+      (or-true (test x) (someOf test xs) h)
 
-  pub witness-some-of : {x : A} {xs : List A} → List·Memᴰ x xs → test x ≡ true → some-of test xs ≡ true
-  unfolding some-of
-  witness-some-of (List·Memᴰ·head e) h = rw (← e, h)
-  witness-some-of (List·Memᴰ·tail {x = first} {xs = xs} m) h =
-      true-or (test first) (witness-some-of m h)
+  pub witness-someOf : {x : A} {xs : List A} → List·Memᴰ x xs → test x ≡ true → someOf test xs ≡ true
+  unfolding someOf
+  witness-someOf (List·Memᴰ·head e) h = rw (← e, h)
+  witness-someOf (List·Memᴰ·tail {x = first} {xs = xs} m) h =
+      true-or (test first) (witness-someOf m h)

@@ -14,8 +14,9 @@ use Rattle.infon.specs.declared.Record.{Record}
 use Rattle.infon.specs.Formula.{Formula, True, and, implies, isNamed, same}
 use Rattle.infon.specs.Listing.{Prefix, wrap, isListed}
 use Rattle.infon.specs.Calculus.{under, Weaker, Derives, hypothesis, given, weaken, left, right, both, apply, attach}
-use Rattle.infon.specs.Journal.{Shape, truth, primitive, conjunction, implication, shapeOf, weakenings, isTruth, isLeft, isRight, areBoth, isUpper, isLower, numbered, gives, isRecorded, premisesIn, isGood}
-use Rattle.infon.proofs.Rows.{and-true, some-of-witness, witness-some-of}
+use Rattle.infon.specs.Rules.{Shape, truth, primitive, conjunction, implication, shapeOf, weakenings, isTruth, isLeft, isRight, areBoth, isConclusion, isCondition, numbered, gives}
+use Rattle.infon.specs.Journal.{isRecorded, premisesIn, isGood}
+use Rattle.infon.proofs.Rows.{and-true, someOf-witness, witness-someOf}
 use Rattle.infon.proofs.Same.{same-eq}
 use Rattle.infon.proofs.Prefixes.{listed-mem, under-wrap, weaker-reverse, shape-truth, shape-conjunction, shape-implication, weakenings-weaker}
 use Rattle.infon.proofs.Listed.{numbered-mem}
@@ -43,8 +44,8 @@ right-found y primitive h = absurd (false≢true h)
 right-found y (conjunction l r) h = (l, λ i. conjunction l (sym (same-eq y r h) i))
 right-found y (implication l r) h = absurd (false≢true h)
 
-upper-found : (y : Formula) (s : Shape) → isUpper y s ≡ true → (x : Formula) × (s ≡ implication x y)
-unfolding isUpper
+upper-found : (y : Formula) (s : Shape) → isConclusion y s ≡ true → (x : Formula) × (s ≡ implication x y)
+unfolding isConclusion
 upper-found y truth h = absurd (false≢true h)
 upper-found y primitive h = absurd (false≢true h)
 upper-found y (conjunction l r) h = absurd (false≢true h)
@@ -59,8 +60,8 @@ both-found x y (conjunction l r) h =
     λ i. conjunction (sym (same-eq x l (parts .0)) i) (sym (same-eq y r (parts .1)) i)
 both-found x y (implication l r) h = absurd (false≢true h)
 
-applied-found : (x y : Formula) (s : Shape) → isLower x s && isUpper y s ≡ true → s ≡ implication x y
-unfolding isLower isUpper
+applied-found : (x y : Formula) (s : Shape) → isCondition x s && isConclusion y s ≡ true → s ≡ implication x y
+unfolding isCondition isConclusion
 applied-found x y truth h = absurd (false≢true h)
 applied-found x y primitive h = absurd (false≢true h)
 applied-found x y (conjunction l r) h = absurd (false≢true h)
@@ -76,12 +77,12 @@ wrap-under-reverse w x = sym (under-wrap (reverse w) x ∙ ap (λ (v : Prefix). 
 pub recorded-by : (n : ℕ) (done : List Record) → isRecorded n done ≡ true → (r : Record) × (List·Memᴰ r done × (n ≡ r .formula))
 unfolding isRecorded
 recorded-by n done h =
-    let found = some-of-witness (λ (r : Record). eqb n (r .formula)) done h in
+    let found = someOf-witness (λ (r : Record). eqb n (r .formula)) done h in
     (found .0, (found .1 .0, eqb-true n (found .0 .formula) (found .1 .1)))
 
 pub by-recorded : (r : Record) (done : List Record) → List·Memᴰ r done → isRecorded (r .formula) done ≡ true
 unfolding isRecorded
-by-recorded r done m = witness-some-of (λ (s : Record). eqb (r .formula) (s .formula)) m (eq-eqb (r .formula) (r .formula) refl)
+by-recorded r done m = witness-someOf (λ (s : Record). eqb (r .formula) (s .formula)) m (eq-eqb (r .formula) (r .formula) refl)
 
 module _ (hyps fs : List Formula) where
   outer : (w : Prefix) (x : Formula) → Derives hyps (wrap w x) → Derives hyps (under (reverse w) x)
@@ -199,19 +200,19 @@ module _ (hyps fs : List Formula) (named : (z : Formula) → List·Memᴰ z fs �
   sound-more done r sound h =
       record {
         listed =
-          λ s m.
+            λ s m.
             ⊎-elim
             (λ (i : List·Memᴰ s done). sound .listed s i)
             (λ (i : List·Memᴰ s (r ∷ [])).
-              subst (λ (t : Record). t .formula < length fs) (sym (List·Memᴰ·eq-of-singleton i)) (good-is hyps fs done r h .below))
+            subst (λ (t : Record). t .formula < length fs) (sym (List·Memᴰ·eq-of-singleton i)) (good-is hyps fs done r h .below))
             (List·Memᴰ·append-cases done m);
         derived =
-          λ s m.
+            λ s m.
             ⊎-elim
             (λ (i : List·Memᴰ s done). sound .derived s i)
             (λ (i : List·Memᴰ s (r ∷ [])).
-              subst (λ (t : Record). Derives hyps (numbered fs (t .formula))) (sym (List·Memᴰ·eq-of-singleton i))
-              (good-derives done r sound h))
+            subst (λ (t : Record). Derives hyps (numbered fs (t .formula))) (sym (List·Memᴰ·eq-of-singleton i))
+            (good-derives done r sound h))
             (List·Memᴰ·append-cases done m);
       }
 

@@ -12,7 +12,7 @@ unfoldable pub bytes : String → List ℕ
 bytes none-left = []
 bytes (c then s) = code c ∷ bytes s
 
--- the two bytes that separate lines and tokens
+-- the byte that ends a line, and the byte that separates tokens
 unfoldable pub lineFeed : ℕ
 lineFeed = 10
 
@@ -33,13 +33,13 @@ module _ {A : Type 0} where
   every test (x ∷ xs) = test x && every test xs
 
   -- some element of the row passes the test
-  unfoldable pub some-of : (A → Bool) → List A → Bool
-  some-of test [] = false
-  some-of test (x ∷ xs) = test x || some-of test xs
+  unfoldable pub someOf : (A → Bool) → List A → Bool
+  someOf test [] = false
+  someOf test (x ∷ xs) = test x || someOf test xs
 
   -- the first element of the row that passes the test, if any
-  unfoldable pub first-of : (A → Bool) → List A → Option A
-  first-of test [] = none
-  first-of test (x ∷ xs) =
-      let later = first-of test xs in
+  unfoldable pub firstOf : (A → Bool) → List A → Option A
+  firstOf test [] = none
+  firstOf test (x ∷ xs) =
+      let later = firstOf test xs in
       cond (test x) (some x) later

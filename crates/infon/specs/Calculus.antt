@@ -21,7 +21,7 @@ putBy p = record { told = put; principal = p }
 -- weaker than itself."
 pub data Weaker : List Quotation → List Quotation → Type 0 where
   end : Weaker [] []
-  kept : {weak strong : List Quotation} (q : Quotation) → Weaker weak strong → Weaker (q ∷ weak) (q ∷ strong)
+  unchanged : {weak strong : List Quotation} (q : Quotation) → Weaker weak strong → Weaker (q ∷ weak) (q ∷ strong)
   lowered : {weak strong : List Quotation} (p : List ℕ) → Weaker weak strong → Weaker (putBy p ∷ weak) (saidBy p ∷ strong)
 
 -- Derives hyps x: some derivation reaches x from the hypotheses. A derivation is a chain in the paper; here it is the tree of

@@ -1,4 +1,10 @@
--- 01, "Eight ways to a record" and "The journal": records, their nine bytes, which are good, which are kept, the next one.
+-- 01, "The journal": records, their nine bytes, which are good, which are kept, the next one.
+--
+--   bytes 0 and 1   the mark 4C 51
+--   byte 2          the rule, 1 to 8
+--   bytes 3 and 4   the formula's number, high byte first
+--   bytes 5 and 6   the first premise's number, or FF FF
+--   bytes 7 and 8   the second premise's number, or FF FF
 use Prim.Native.Nat.{ℕ, zero, suc, _+_, _*_, _/_, _%_}
 use mathlib.Core.Bool.{Bool, true, false, cond, _&&_, not}
 use mathlib.Core.Option.{Option, none, some}
@@ -8,96 +14,16 @@ use lib.Dec.{ltb, eqb}
 use Rattle.infon.specs.declared.Way.{Way}
 use Rattle.infon.specs.declared.Way.the-variants.{Hypothesis, Given, Weaken, Left, Right, Both, Apply, Attach}
 use Rattle.infon.specs.declared.Record.{Record}
-use Rattle.infon.specs.Bytes.{some-of, first-of}
-use Rattle.infon.specs.Formula.{Formula, True, name, and, implies, quoted, same}
-use Rattle.infon.specs.Listing.{Prefix, wrap, weakened, isListed}
-
--- A formula under its whole row of quotations. Nothing else can stand in front of the `T`, `+` or `>` that a rule shows, while
--- x and y may begin with quotations of their own: `conjunction` and `implication` hold pref x and pref y.
-pub data Shape : Type 0 where
-  truth : Shape
-  primitive : Shape
-  conjunction : Formula → Formula → Shape
-  implication : Formula → Formula → Shape
-
-unfoldable pub shapeUnder : Prefix → Formula → Shape
-shapeUnder pref True = truth
-shapeUnder pref (name a) = primitive
-shapeUnder pref (and x y) = conjunction (wrap pref x) (wrap pref y)
-shapeUnder pref (implies x y) = implication (wrap pref x) (wrap pref y)
-shapeUnder pref (quoted q x) = shapeUnder (q ∷ pref) x
-
-unfoldable pub shapeOf : Formula → Shape
-shapeOf x = shapeUnder [] x
-
--- every formula that rule 3 gives from a formula, itself with them
-unfoldable pub weakenedUnder : Prefix → Formula → List Formula
-weakenedUnder pref True = weakened pref True
-weakenedUnder pref (name a) = weakened pref (name a)
-weakenedUnder pref (and x y) = weakened pref (and x y)
-weakenedUnder pref (implies x y) = weakened pref (implies x y)
-weakenedUnder pref (quoted q x) = weakenedUnder (q ∷ pref) x
-
-unfoldable pub weakenings : Formula → List Formula
-weakenings x = weakenedUnder [] x
-
--- rule 2: the formula is pref T
-unfoldable pub isTruth : Shape → Bool
-isTruth truth = true
-isTruth primitive = false
-isTruth (conjunction l r) = false
-isTruth (implication l r) = false
-
--- rules 4 and 5: x is the left, or the right, part of a conjunction
-unfoldable pub isLeft : Formula → Shape → Bool
-isLeft x truth = false
-isLeft x primitive = false
-isLeft x (conjunction l r) = same x l
-isLeft x (implication l r) = false
-
-unfoldable pub isRight : Formula → Shape → Bool
-isRight y truth = false
-isRight y primitive = false
-isRight y (conjunction l r) = same y r
-isRight y (implication l r) = false
-
--- rule 6: x and y are the parts of a conjunction
-unfoldable pub areBoth : Formula → Formula → Shape → Bool
-areBoth x y shape = isLeft x shape && isRight y shape
-
--- rule 8: y is the right part of an implication; rule 7: x is the left part of it too
-unfoldable pub isUpper : Formula → Shape → Bool
-isUpper y truth = false
-isUpper y primitive = false
-isUpper y (conjunction l r) = false
-isUpper y (implication l r) = same y r
-
-unfoldable pub isLower : Formula → Shape → Bool
-isLower x truth = false
-isLower x primitive = false
-isLower x (conjunction l r) = false
-isLower x (implication l r) = same x l
-
--- the formula with a number on the list
-unfoldable pub numbered : List Formula → ℕ → Formula
-numbered fs n = getD fs n True
-
--- "the rule gives that formula from them": the table of eight ways, row by row
-unfoldable pub gives : List Formula → List Formula → Way → Formula → Bool
-gives hyps fs Hypothesis x = isListed x hyps
-gives hyps fs Given x = isTruth (shapeOf x)
-gives hyps fs (Weaken p) x = isListed x (weakenings (numbered fs p))
-gives hyps fs (Left p) x = isLeft x (shapeOf (numbered fs p))
-gives hyps fs (Right p) x = isRight x (shapeOf (numbered fs p))
-gives hyps fs (Both p q) x = areBoth (numbered fs p) (numbered fs q) (shapeOf x)
-gives hyps fs (Apply p q) x = isLower (numbered fs p) (shapeOf (numbered fs q)) && isUpper x (shapeOf (numbered fs q))
-gives hyps fs (Attach p) x = isUpper (numbered fs p) (shapeOf x)
+use Rattle.infon.specs.Bytes.{someOf, firstOf}
+use Rattle.infon.specs.Formula.{Formula}
+use Rattle.infon.specs.Rules.{numbered, gives}
 
 -- the formula's number stands in one of the records
 unfoldable pub isRecorded : ℕ → List Record → Bool
-isRecorded n done = some-of (λ (r : Record). eqb n (r .formula)) done
+isRecorded n done = someOf (λ (r : Record). eqb n (r .formula)) done
 
--- "each premise that the rule has is recorded earlier"
+-- "each premise that the rule has is recorded earlier"; "A premise is given by its formula's number on the list, not by the place
+-- of its record."
 unfoldable pub premisesIn : Way → List Record → Bool
 premisesIn Hypothesis done = true
 premisesIn Given done = true
@@ -120,6 +46,12 @@ isGood hyps fs done r =
 -- premise (two bytes each). .. FF FF stands for no premise."
 unfoldable pub recordBytes : ℕ
 recordBytes = 9
+
+abbrev pub markHigh : ℕ
+markHigh = 0x4C
+
+abbrev pub markLow : ℕ
+markLow = 0x51
 
 unfoldable pub noPremise : ℕ
 noPremise = 0xFFFF
@@ -159,7 +91,7 @@ twoBytes n = n / 256 % 256 ∷ (n % 256 ∷ [])
 
 unfoldable pub spelled : Record → List ℕ
 spelled r =
-    0x4C ∷ (0x51 ∷ (ruleOf (r .way) ∷ (twoBytes (r .formula) ++ (twoBytes (firstPremise (r .way)) ++ twoBytes (secondPremise (r .way))))))
+    markHigh ∷ (markLow ∷ (ruleOf (r .way) ∷ (twoBytes (r .formula) ++ (twoBytes (firstPremise (r .way)) ++ twoBytes (secondPremise (r .way))))))
 
 unfoldable pub spelledAll : List Record → List ℕ
 spelledAll [] = []
@@ -193,7 +125,7 @@ numberAt s i = getD s i 0 * 256 + getD s (i + 1) 0
 -- the record that nine bytes spell, if they do
 unfoldable pub decoded : List ℕ → Option Record
 decoded s =
-    cond (eqb (getD s 0 0) 0x4C && eqb (getD s 1 0) 0x51)
+    cond (eqb (getD s 0 0) markHigh && eqb (getD s 1 0) markLow)
     (recordFor (numberAt s 3) (wayOf (getD s 2 0) (numberAt s 5) (numberAt s 7)))
     none
 
@@ -243,7 +175,7 @@ unfoldable pub allRecords : ℕ → List Record
 allRecords n = recordsFor (allWays (numbersFrom 0 n)) (numbersFrom 0 n)
 
 unfoldable pub next : List Formula → List Formula → List Record → Option Record
-next hyps fs done = first-of (isGood hyps fs done) (allRecords (length fs))
+next hyps fs done = firstOf (isGood hyps fs done) (allRecords (length fs))
 
 -- "A journal with no next record is finished."
 unfoldable pub hasNone : Option Record → Bool

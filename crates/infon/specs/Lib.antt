@@ -4,5 +4,6 @@ pub mod Formula
 pub mod Policy
 pub mod Listing
 pub mod Calculus
+pub mod Rules
 pub mod Journal
 pub mod Run

@@ -4,7 +4,7 @@ use mathlib.Core.Bool.{Bool, cond}
 use mathlib.Core.List.{List, [], _∷_, _++_, map}
 use lib.ListN.{length}
 use lib.Dec.{ltb}
-use Rattle.infon.specs.Bytes.{some-of}
+use Rattle.infon.specs.Bytes.{someOf}
 use Rattle.infon.specs.Formula.{Told, said, put, Quotation, Formula, True, name, and, implies, quoted, same}
 use Rattle.infon.specs.Policy.{Entry, formulaIn, Verdict, passed, when, andThen}
 
@@ -33,25 +33,25 @@ unfoldable pub insideEach : Quotation → List Prefix → List Prefix
 insideEach q [] = []
 insideEach q (outer ∷ rest) = inside q (weakerTold (q .told)) outer ++ insideEach q rest
 
-unfoldable pub weaker : Prefix → List Prefix
-weaker [] = [] ∷ []
-weaker (q ∷ outer) = insideEach q (weaker outer)
+unfoldable pub weakerPrefixes : Prefix → List Prefix
+weakerPrefixes [] = [] ∷ []
+weakerPrefixes (q ∷ outer) = insideEach q (weakerPrefixes outer)
 
 -- "For each, list every weaker prefix followed by the base"
 unfoldable pub weakened : Prefix → Formula → List Formula
-weakened pref base = map (λ (w : Prefix). wrap w base) (weaker pref)
+weakened pref base = map (λ (w : Prefix). wrap w base) (weakerPrefixes pref)
 
 -- "A base is a node that is not a quotation." "Take all bases in order of their first byte": operator first is first byte first.
-unfoldable pub local : Prefix → Formula → List Formula
-local pref True = weakened pref True
-local pref (name a) = weakened pref (name a)
-local pref (and x y) = weakened pref (and x y) ++ (local pref x ++ local pref y)
-local pref (implies x y) = weakened pref (implies x y) ++ (local pref x ++ local pref y)
-local pref (quoted q x) = local (q ∷ pref) x
+unfoldable pub weakenedBases : Prefix → Formula → List Formula
+weakenedBases pref True = weakened pref True
+weakenedBases pref (name a) = weakened pref (name a)
+weakenedBases pref (and x y) = weakened pref (and x y) ++ (weakenedBases pref x ++ weakenedBases pref y)
+weakenedBases pref (implies x y) = weakened pref (implies x y) ++ (weakenedBases pref x ++ weakenedBases pref y)
+weakenedBases pref (quoted q x) = weakenedBases (q ∷ pref) x
 
 -- "Skip what has been listed already."
 unfoldable pub isListed : Formula → List Formula → Bool
-isListed x fs = some-of (same x) fs
+isListed x fs = someOf (same x) fs
 
 unfoldable pub enlist : List Formula → List Formula → List Formula
 enlist fs [] = fs
@@ -60,7 +60,7 @@ enlist fs (x ∷ rest) = enlist (cond (isListed x fs) fs (fs ++ (x ∷ []))) res
 -- "numbered from 0 as they are listed": a formula's number is its place in this row
 unfoldable pub listFrom : List Formula → List Entry → List Formula
 listFrom fs [] = fs
-listFrom fs (e ∷ rest) = listFrom (enlist fs (local [] (formulaIn (e .sentence)))) rest
+listFrom fs (e ∷ rest) = listFrom (enlist fs (weakenedBases [] (formulaIn (e .sentence)))) rest
 
 unfoldable pub listOf : List Entry → List Formula
 listOf entries = listFrom [] entries
@@ -72,7 +72,7 @@ mostListed = 4096
 unfoldable pub code5From : List Formula → List Entry → Verdict
 code5From fs [] = passed
 code5From fs (e ∷ rest) =
-    let now = enlist fs (local [] (formulaIn (e .sentence))) in
+    let now = enlist fs (weakenedBases [] (formulaIn (e .sentence))) in
     andThen (when (ltb mostListed (length now)) 5 (e .start)) (code5From now rest)
 
 unfoldable pub code5 : List Entry → Verdict

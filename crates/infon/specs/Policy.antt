@@ -2,10 +2,10 @@
 use Prim.Native.Nat.{ℕ, _+_}
 use mathlib.Core.Bool.{Bool, true, false, cond, not}
 use mathlib.Core.Option.{Option, none, some}
-use mathlib.Core.List.{List, [], _∷_, _++_}
+use mathlib.Core.List.{List, [], _∷_}
 use lib.ListN.{length}
 use lib.Dec.{ltb, eqb}
-use Rattle.infon.specs.Bytes.{bytes, lineFeed, alike, first-of}
+use Rattle.infon.specs.Bytes.{bytes, lineFeed, alike}
 use Rattle.infon.specs.Formula.{Formula, onto, formulaOf, nodes, depth}
 
 -- "ASCII, zero or more lines, each ended by one line feed (byte 10)": the file cut behind each line feed. A rest without a
@@ -37,15 +37,16 @@ unfoldable pub says : (Formula → Sentence) → Option Formula → Option Sente
 says letter none = none
 says letter (some x) = some (letter x)
 
--- the bytes before the line feed that ends a text, if one does
-unfoldable pub behind : ℕ → Option (List ℕ) → Option (List ℕ)
-behind b none = none
-behind b (some text) = some (b ∷ text)
+-- one more byte in front of a text
+unfoldable pub inFront : ℕ → Option (List ℕ) → Option (List ℕ)
+inFront b none = none
+inFront b (some text) = some (b ∷ text)
 
-unfoldable pub unended : List ℕ → Option (List ℕ)
-unended [] = none
-unended (b ∷ []) = cond (eqb b lineFeed) (some []) none
-unended (b ∷ (c ∷ s)) = behind b (unended (c ∷ s))
+-- the bytes before the line feed that ends a text, if one does
+unfoldable pub beforeFeed : List ℕ → Option (List ℕ)
+beforeFeed [] = none
+beforeFeed (b ∷ []) = cond (eqb b lineFeed) (some []) none
+beforeFeed (b ∷ (c ∷ s)) = inFront b (beforeFeed (c ∷ s))
 
 unfoldable pub read : (Formula → Sentence) → Option (List ℕ) → Option Sentence
 read letter none = none
@@ -57,8 +58,8 @@ unfoldable pub sentenceOf : List ℕ → Option Sentence
 sentenceOf [] = none
 sentenceOf (a ∷ []) = none
 sentenceOf (a ∷ (b ∷ text)) =
-    cond (alike (a ∷ (b ∷ [])) (bytes "H ")) (read hypothesis (unended text))
-    (cond (alike (a ∷ (b ∷ [])) (bytes "Q ")) (read query (unended text)) none)
+    cond (alike (a ∷ (b ∷ [])) (bytes "H ")) (read hypothesis (beforeFeed text))
+    (cond (alike (a ∷ (b ∷ [])) (bytes "Q ")) (read query (beforeFeed text)) none)
 
 unfoldable pub isSome : {A : Type 0} → Option A → Bool
 isSome none = false
@@ -72,13 +73,13 @@ pub record Entry : Type 0 where
   pub start : ℕ
   pub sentence : Sentence
 
-unfoldable pub entry : ℕ → Option Sentence → List Entry → List Entry
-entry start none rest = rest
-entry start (some sentence) rest = record { start = start; sentence = sentence } ∷ rest
+unfoldable pub withEntry : ℕ → Option Sentence → List Entry → List Entry
+withEntry start none rest = rest
+withEntry start (some sentence) rest = record { start = start; sentence = sentence } ∷ rest
 
 unfoldable pub entriesFrom : List Line → List Entry
 entriesFrom [] = []
-entriesFrom (line ∷ rest) = entry (line .start) (sentenceOf (line .text)) (entriesFrom rest)
+entriesFrom (line ∷ rest) = withEntry (line .start) (sentenceOf (line .text)) (entriesFrom rest)
 
 unfoldable pub entriesOf : List ℕ → List Entry
 entriesOf file = entriesFrom (linesOf file)

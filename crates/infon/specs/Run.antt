@@ -9,12 +9,13 @@ use Rattle.infon.specs.declared.Record.{Record}
 use Rattle.infon.specs.declared.Answer.{Answer}
 use Rattle.infon.specs.declared.Answer.the-variants.{No, Yes, Open}
 use Rattle.infon.specs.declared.Report.{Report}
-use Rattle.infon.specs.Bytes.{some-of}
+use Rattle.infon.specs.Bytes.{someOf}
 use Rattle.infon.specs.Formula.{Formula, same}
 use Rattle.infon.specs.Policy.{entriesOf, hypothesesOf, queriesOf, Verdict, passed, refused, andThen, when, code1, code2, code3, code4}
 use Rattle.infon.specs.Listing.{listOf, code5}
 use Rattle.infon.specs.Calculus.{Derives}
-use Rattle.infon.specs.Journal.{numbered, isRecorded, recordBytes, spelledAll, keptOf, grown, isFinished}
+use Rattle.infon.specs.Rules.{numbered}
+use Rattle.infon.specs.Journal.{isRecorded, recordBytes, spelledAll, keptOf, grown, isFinished}
 
 -- "An answer is yes (byte 1), no (byte 0) or open (byte 2)"
 unfoldable pub answerByte : Answer → ℕ
@@ -28,11 +29,12 @@ answerOf true finished = Yes
 answerOf false true = No
 answerOf false false = Open
 
-unfoldable pub isAnswered : List Formula → List Record → Formula → Bool
-isAnswered fs done x = some-of (λ (r : Record). same x (numbered fs (r .formula))) done
+-- the formula is recorded: one of the records is for it
+unfoldable pub isOnRecord : List Formula → List Record → Formula → Bool
+isOnRecord fs done x = someOf (λ (r : Record). same x (numbered fs (r .formula))) done
 
 unfoldable pub answersOf : List Formula → List Formula → List Record → List Formula → List Answer
-answersOf hyps fs done queries = map (λ (x : Formula). answerOf (isAnswered fs done x) (isFinished hyps fs done)) queries
+answersOf hyps fs done queries = map (λ (x : Formula). answerOf (isOnRecord fs done x) (isFinished hyps fs done)) queries
 
 -- "A file is accepted when none of the codes about the file alone, here 1 to 5, applies."
 unfoldable pub fileVerdict : List ℕ → Verdict
@@ -87,7 +89,7 @@ refusal code place used journal answers =
 unfoldable pub written : List ℕ → ℕ → List ℕ → List ℕ
 written buffer at new = take at buffer ++ (new ++ drop (at + length new) buffer)
 
--- "The run adds the smaller of n and missing, each the next one, right after the kept part. It returns code 0, place 0, the
+-- "The run adds .. right after the kept part. It returns code 0, place 0, the
 -- records kept, the records added, whether the journal is finished, and the new used length, nine times the sum of kept and
 -- added. Later journal bytes stay as they were." "Answer bytes beyond the last query stay as they were."
 unfoldable pub success : List Formula → List Formula → List Formula → List Record → List Record → List ℕ → List ℕ → Outcome
