@@ -1,0 +1,106 @@
+-- The nodes of a policy file, numbered in the order of their first bytes, and the table that holds them.
+use Prim.Native.Nat.{ℕ, zero, suc, _+_, _*_, _<_}
+use mathlib.Core.Path.{_≡_}
+use mathlib.Core.List.{List, [], _∷_, _++_}
+use lib.ListN.{length, getD, take, drop}
+use Rattle.infon.specs.Formula.{Told, said, put, Formula, True, name, and, implies, quoted, spelling, nodes}
+use Rattle.infon.specs.Policy.{Entry, entriesOf, formulaIn}
+use Rattle.infon.specs.Listing.{Prefix}
+
+-- A node still to be gone through: its first byte's place, its line's start, the number of the nearest quotation above it,
+-- its prefix, and the formula that begins there.
+pub record Node : Type 0 where
+  pub place : ℕ
+  pub line : ℕ
+  pub above : ℕ
+  pub pre : Prefix
+  pub what : Formula
+
+-- stands for no quotation above
+unfoldable pub none-above : ℕ
+none-above = 0xFFFF
+
+-- What a node puts in its place: nothing for a leaf, both parts under the same prefix, the quoted formula under the longer one.
+unfoldable pub part : Node → ℕ → Formula → Node
+part n behind x = record { place = n .place + behind; line = n .line; above = n .above; pre = n .pre; what = x }
+
+unfoldable pub kidsOf : ℕ → Node → Formula → List Node
+kidsOf i n True = []
+kidsOf i n (name a) = []
+kidsOf i n (and x y) = part n 2 x ∷ (part n (3 + length (spelling x)) y ∷ [])
+kidsOf i n (implies x y) = part n 2 x ∷ (part n (3 + length (spelling x)) y ∷ [])
+kidsOf i n (quoted q x) =
+    record { place = n .place + (3 + length (q .principal)); line = n .line; above = i; pre = q ∷ n .pre; what = x } ∷ []
+
+unfoldable pub kids : ℕ → Node → List Node
+kids i n = kidsOf i n (n .what)
+
+-- The row of nodes still to be gone through, k nodes after the one numbered i: each node is replaced by its kids.
+unfoldable pub after : ℕ → ℕ → List Node → List Node
+after i zero row = row
+after i (suc k) [] = []
+after i (suc k) (n ∷ row) = after (suc i) k (kids i n ++ row)
+
+unfoldable pub nowhere : Node
+nowhere = record { place = 0; line = 0; above = none-above; pre = []; what = True }
+
+-- node i of a row
+unfoldable pub nodeAt : List Node → ℕ → Node
+nodeAt row i = getD (after 0 i row) 0 nowhere
+
+-- the row that a file begins with: each line's formula, two bytes behind the line's start
+unfoldable pub roots : List Entry → List Node
+roots [] = []
+roots (e ∷ rest) =
+    record { place = e .start + 2; line = e .start; above = none-above; pre = []; what = formulaIn (e .sentence) } ∷ roots rest
+
+unfoldable pub countNodes : List Node → ℕ
+countNodes [] = 0
+countNodes (n ∷ row) = nodes (n .what) + countNodes row
+
+-- the table's columns, 1,024 rows each
+unfoldable pub nodeRows : ℕ
+nodeRows = 1024
+
+unfoldable pub nodeColumns : ℕ
+nodeColumns = 7
+
+-- column 0, the kind
+unfoldable pub kindOf : Formula → ℕ
+kindOf True = 0
+kindOf (name a) = 1
+kindOf (and x y) = 2
+kindOf (implies x y) = 3
+kindOf (quoted q x) = toldKind (q .told)
+  where
+    toldKind : Told → ℕ
+    toldKind said = 4
+    toldKind put = 5
+
+-- column 2, the node's own bytes: its letter, its name, or letter, space and principal
+unfoldable pub ownBytes : Formula → ℕ
+ownBytes True = 1
+ownBytes (name a) = length a
+ownBytes (and x y) = 1
+ownBytes (implies x y) = 1
+ownBytes (quoted q x) = 2 + length (q .principal)
+
+-- what stands in the columns at a node's number i: its kind, place, own bytes, the number behind its last node, the nearest
+-- quotation above, its line's start, and how many quotations are above it
+unfoldable pub nodeCell : ℕ → ℕ → Node → ℕ
+nodeCell zero i n = kindOf (n .what)
+nodeCell (suc zero) i n = n .place
+nodeCell (suc (suc zero)) i n = ownBytes (n .what)
+nodeCell (suc (suc (suc zero))) i n = i + nodes (n .what)
+nodeCell (suc (suc (suc (suc zero)))) i n = n .above
+nodeCell (suc (suc (suc (suc (suc zero))))) i n = n .line
+nodeCell (suc (suc (suc (suc (suc (suc k)))))) i n = length (n .pre)
+
+-- The table holds the nodes of a row: each cell of a node is as said, every other one as it was before.
+pub record Noded (row : List Node) (before after : List ℕ) : Type 0 where
+  pub size : length after ≡ length before
+  pub cells : (k i : ℕ) → k < nodeColumns → i < countNodes row → getD after (k * nodeRows + i) 0 ≡ nodeCell k i (nodeAt row i)
+  pub others : (k i : ℕ) → i < nodeRows → (i < countNodes row → ⊥) → getD after (k * nodeRows + i) 0 ≡ getD before (k * nodeRows + i) 0
+
+unfoldable pub nodesOf : List ℕ → List Node
+nodesOf file = roots (entriesOf file)
