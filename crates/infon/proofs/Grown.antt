@@ -165,6 +165,17 @@ module _ (hyps fs : List Formula) where
   pub grown-good : (done : List Record) (n : ℕ) → GoodRow hyps fs done (grown hyps fs done n)
   grown-good done n = growth-good done n (grown hyps fs done n) (grown-growth done n)
 
+  good-first : (done : List Record) (r : Record) (rest : List Record) → GoodRow hyps fs done (r ∷ rest)
+      → (isGood hyps fs done r ≡ true) × GoodRow hyps fs (done ++ (r ∷ [])) rest
+  good-first done r rest (more d q later h row) = (h, row)
+
+  -- a record of a good row is for a formula that none before it is for
+  pub good-fresh : (done before after : List Record) (r : Record) → GoodRow hyps fs done (before ++ (r ∷ after))
+      → isRecorded (r .formula) (done ++ before) ≡ false
+  good-fresh done [] after r row = rw append-nil (good-parts done r (good-first done r after row .0) .1)
+  good-fresh done (q ∷ before) after r row =
+      rw append-assoc at (good-fresh (done ++ (q ∷ [])) before after r (good-first done q (before ++ (r ∷ after)) row .1))
+
   pub good-append : (done xs ys : List Record) → GoodRow hyps fs done xs → GoodRow hyps fs (done ++ xs) ys → GoodRow hyps fs done (xs ++ ys)
   good-append done xs ys (stop _) goods = rw append-nil at goods
   good-append done xs ys (more _ r rest good later) goods =

@@ -17,3 +17,5 @@ pub mod Cuts
 pub mod Sound
 pub mod Finished
 pub mod Missing
+pub mod Refusals
+pub mod Demands

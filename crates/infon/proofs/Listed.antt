@@ -19,6 +19,7 @@ use Rattle.infon.specs.Listing.{Prefix, wrap, weakened, weakenedBases, i
 use Rattle.infon.specs.Calculus.{Weaker, end, unchanged}
 use Rattle.infon.specs.Rules.{Shape, truth, primitive, conjunction, implication, shapeUnder, shapeOf, coreOf, weakenings, numbered}
 use Rattle.infon.proofs.Rows.{decided}
+use Rattle.infon.proofs.Locality.{Closed}
 use Rattle.infon.proofs.Prefixes.{listed-mem, mem-listed, shape-wrap, shape-wrap-and, shape-wrap-implies}
 use Rattle.infon.proofs.Prefixes.{mem-weakened, weakened-mem, weaker-weakenings, weakened-twice}
 
@@ -242,34 +243,27 @@ pub list-shape-closed : (entries : List Entry) → ShapeClosed (listOf entries)
 list-shape-closed entries =
     same-closed (λ x. listOf-has entries) (λ x. listOf-only entries) (unskipped-closed entries)
 
--- the same said with prefixes: the row is closed under the operands of its formulas and under rule 3
-pub record Closed (fs : List Formula) : Type 0 where
-  pub and-left : (w : Prefix) (x y : Formula) → List·Memᴰ (wrap w (and x y)) fs → List·Memᴰ (wrap w x) fs
-  pub and-right : (w : Prefix) (x y : Formula) → List·Memᴰ (wrap w (and x y)) fs → List·Memᴰ (wrap w y) fs
-  pub implies-left : (w : Prefix) (x y : Formula) → List·Memᴰ (wrap w (implies x y)) fs → List·Memᴰ (wrap w x) fs
-  pub implies-right : (w : Prefix) (x y : Formula) → List·Memᴰ (wrap w (implies x y)) fs → List·Memᴰ (wrap w y) fs
-  pub weaken : (v w : Prefix) (x : Formula) → Weaker v w → List·Memᴰ (wrap w x) fs → List·Memᴰ (wrap v x) fs
-
-shapes-prefixes : {fs : List Formula} → ShapeClosed fs → Closed fs
-shapes-prefixes {fs} closed =
+-- the same said with prefixes
+shapes-prefixes : (fs : List Formula) → ShapeClosed fs → Closed (λ (x : Formula). isListed x fs)
+shapes-prefixes fs closed =
     record {
-      and-left = λ w x y m. conjuncts w x y m .0;
-      and-right = λ w x y m. conjuncts w x y m .1;
-      implies-left = λ w x y m. sides w x y m .0;
-      implies-right = λ w x y m. sides w x y m .1;
-      weaken = λ v w x h m. closed .weaker-forms m (weaker-weakenings x h);
+      and-left = λ w x y h. mem-listed (conjuncts w x y h .0);
+      and-right = λ w x y h. mem-listed (conjuncts w x y h .1);
+      implies-left = λ w x y h. mem-listed (sides w x y h .0);
+      implies-right = λ w x y h. mem-listed (sides w x y h .1);
+      weaker-listed = λ v w x le h. mem-listed (closed .weaker-forms (listed-mem (wrap w x) fs h) (weaker-weakenings x le));
     }
   where
-    conjuncts : (w : Prefix) (x y : Formula) → List·Memᴰ (wrap w (and x y)) fs
+    conjuncts : (w : Prefix) (x y : Formula) → isListed (wrap w (and x y)) fs ≡ true
         → List·Memᴰ (wrap w x) fs × List·Memᴰ (wrap w y) fs
-    conjuncts w x y m = subst (PartsIn fs) (shape-wrap-and w x y) (closed .parts m)
+    conjuncts w x y h = subst (PartsIn fs) (shape-wrap-and w x y) (closed .parts (listed-mem (wrap w (and x y)) fs h))
 
-    sides : (w : Prefix) (x y : Formula) → List·Memᴰ (wrap w (implies x y)) fs
+    sides : (w : Prefix) (x y : Formula) → isListed (wrap w (implies x y)) fs ≡ true
         → List·Memᴰ (wrap w x) fs × List·Memᴰ (wrap w y) fs
-    sides w x y m = subst (PartsIn fs) (shape-wrap-implies w x y) (closed .parts m)
+    sides w x y h = subst (PartsIn fs) (shape-wrap-implies w x y) (closed .parts (listed-mem (wrap w (implies x y)) fs h))
 
-pub list-closed : (entries : List Entry) → Closed (listOf entries)
-list-closed entries = shapes-prefixes (list-shape-closed entries)
+pub list-closed : (entries : List Entry) → Closed (λ (x : Formula). isListed x (listOf entries))
+list-closed entries = shapes-prefixes (listOf entries) (list-shape-closed entries)
 
 -- what stands on a line is listed
 line-unskipped : (s : Sentence) (rest : List Formula) {x : Formula} → (x ≡ formulaIn s) ⊎ List·Memᴰ x rest

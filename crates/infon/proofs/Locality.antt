@@ -9,8 +9,9 @@ use mathlib.Core.Bool.{Bool, true, false, cond, _&&_, false≢true}
 use mathlib.Core.List.{List, [], _∷_, reverseAux, reverse, List·Memᴰ}
 use Rattle.infon.specs.Formula.{Quotation, Formula, True, name, and, implies, quoted}
 use Rattle.infon.specs.Listing.{Prefix, wrap}
-use Rattle.infon.specs.Calculus.{under, Weaker, end, unchanged, lowered, Derives, hypothesis, given, weaken, left, right, both, apply, attach}
+use Rattle.infon.specs.Calculus.{under, Weaker, unchanged, Derives, hypothesis, given, weaken, left, right, both, apply, attach}
 use Rattle.infon.proofs.Rows.{and-true, true-and, decided}
+use Rattle.infon.proofs.Prefixes.{weaker-reverse}
 
 -- what is on the list, with its parts and everything weaker
 pub record Closed (listed : Formula → Bool) : Type 0 where
@@ -164,18 +165,13 @@ module _ (hyps : List Formula) (listed recorded : Formula → Bool) (closed : Cl
       (decided (listed (wrap w (implies x y))))
   value-weaken v w (quoted q x) le h = value-weaken (q ∷ v) (q ∷ w) x (unchanged q le) h
 
-  weaker-onto : {v w : Prefix} {low high : List Quotation} → Weaker v w → Weaker low high → Weaker (reverseAux low v) (reverseAux high w)
-  weaker-onto le end = le
-  weaker-onto le (unchanged q rest) = weaker-onto (unchanged q le) rest
-  weaker-onto le (lowered p rest) = weaker-onto (lowered p le) rest
-
   derives-value : (z : Formula) → Derives hyps z → value listed recorded [] z ≡ true
   unfolding wrap
   derives-value z (hypothesis x m) = let here = complete .by-hypothesis x m in recorded-value [] x (here .0) (here .1)
   derives-value z (given pref n) = value-under [] pref True ∙ value-given (reverse pref)
   derives-value z (weaken low high x le d) =
       value-under [] low x
-      ∙ value-weaken (reverse low) (reverse high) x (weaker-onto end le) (sym (value-under [] high x) ∙ derives-value (under high x) d)
+      ∙ value-weaken (reverse low) (reverse high) x (weaker-reverse le) (sym (value-under [] high x) ∙ derives-value (under high x) d)
   derives-value z (left pref x y d) =
       value-under [] pref x ∙ value-left (reverse pref) x y (sym (value-under [] pref (and x y)) ∙ derives-value (under pref (and x y)) d)
   derives-value z (right pref x y d) =

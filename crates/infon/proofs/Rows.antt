@@ -1,6 +1,8 @@
 -- Rows and tests: `every`, `someOf` and `firstOf` against membership, and tests that hold together.
 -- Assumes nothing.
-use Prim.Native.Nat.{ℕ}
+use Prim.Native.Nat.{ℕ, zero, suc, _<_}
+use native.Mathlib.Nat.{le-of-suc-le-suc, not-suc-le-zero}
+use lib.ListN.{length, getD}
 use mathlib.Core.Path.{_≡_, refl, sym, _∙_, ap, subst}
 use mathlib.Core.Logic.{_⊎_, inl, inr, ⊎-elim}
 use mathlib.Core.Bool.{Bool, true, false, cond, _&&_, _||_, not, false≢true, true≢false}
@@ -65,3 +67,9 @@ module _ {A : Type 0} (test : A → Bool) where
   witness-someOf (List·Memᴰ·head e) h = rw (← e, h)
   witness-someOf (List·Memᴰ·tail {x = first} {xs = xs} m) h =
       true-or (test first) (witness-someOf m h)
+
+-- an element of a mapped row, whatever stands in for one that is not there
+pub getD-map : {A B : Type 0} (f : A → B) (xs : List A) (i : ℕ) (a : A) (b : B) → i < length xs → getD (map f xs) i b ≡ f (getD xs i a)
+getD-map f [] i a b low = absurd (not-suc-le-zero low)
+getD-map f (x ∷ xs) zero a b low = refl
+getD-map f (x ∷ xs) (suc i) a b low = getD-map f xs i a b (le-of-suc-le-suc low)

@@ -20,7 +20,8 @@ use Rattle.infon.proofs.Rows.{and-true, someOf-witness, witness-someOf}
 use Rattle.infon.proofs.Same.{same-eq}
 use Rattle.infon.proofs.Prefixes.{listed-mem, under-wrap, weaker-reverse, shape-truth, shape-conjunction, shape-implication, weakenings-weaker}
 use Rattle.infon.proofs.Listed.{numbered-mem}
-use Rattle.infon.proofs.Grown.{GoodRow, stop, more}
+use Rattle.infon.proofs.Least.{PremisesBelow}
+use Rattle.infon.proofs.Grown.{GoodRow, stop, more, good-parts}
 
 -- what the tests of a rule find, where they pass
 truth-found : (s : Shape) → isTruth s ≡ true → s ≡ truth
@@ -102,20 +103,9 @@ module _ (hyps fs : List Formula) where
     pub follows : gives hyps fs (r .way) (numbered fs (r .formula)) ≡ true
 
   pub good-is : (done : List Record) (r : Record) → isGood hyps fs done r ≡ true → Good done r
-  unfolding isGood
   good-is done r h =
-      let low = ltb (r .formula) (length fs) in
-      let new = not (isRecorded (r .formula) done) in
-      let prem = premisesIn (r .way) done in
-      let last = and-true (low && new && prem) (gives hyps fs (r .way) (numbered fs (r .formula))) h in
-      let third = and-true (low && new) prem (last .0) in
-      let first = and-true low new (third .0) in
-      record {
-        below = ltb-true (r .formula) (length fs) (first .0);
-        fresh = not-true (isRecorded (r .formula) done) (first .1);
-        premises = third .1;
-        follows = last .1;
-      }
+      let parts = good-parts hyps fs done r h in
+      record { below = parts .0; fresh = parts .1; premises = parts .2; follows = parts .3 }
 
   -- records that are for listed, derivable formulas
   pub record Sound (done : List Record) : Type 0 where
@@ -126,6 +116,27 @@ module _ (hyps fs : List Formula) where
   premise-derived done p sound h =
       let found = recorded-by p done h in
       subst (λ (n : ℕ). Derives hyps (numbered fs n)) (sym (found .1 .1)) (sound .derived (found .0) (found .1 .0))
+
+  -- the premises of a way that are recorded are numbers of the list
+  premise-below : (done : List Record) (p : ℕ) → Sound done → isRecorded p done ≡ true → p < length fs
+  premise-below done p sound h =
+      let found = recorded-by p done h in
+      subst (λ (n : ℕ). n < length fs) (sym (found .1 .1)) (sound .listed (found .0) (found .1 .0))
+
+  pub premises-below : (done : List Record) (way : Way) → Sound done → premisesIn way done ≡ true → PremisesBelow (length fs) way
+  unfolding premisesIn
+  premises-below done Hypothesis sound h = tt
+  premises-below done Given sound h = tt
+  premises-below done (Weaken p) sound h = premise-below done p sound h
+  premises-below done (Left p) sound h = premise-below done p sound h
+  premises-below done (Right p) sound h = premise-below done p sound h
+  premises-below done (Both p q) sound h =
+      let both-in = and-true (isRecorded p done) (isRecorded q done) h in
+      (premise-below done p sound (both-in .0), premise-below done q sound (both-in .1))
+  premises-below done (Apply p q) sound h =
+      let both-in = and-true (isRecorded p done) (isRecorded q done) h in
+      (premise-below done p sound (both-in .0), premise-below done q sound (both-in .1))
+  premises-below done (Attach p) sound h = premise-below done p sound h
 
   way-derives : (done : List Record) (way : Way) (z : Formula) → Sound done → isNamed z ≡ true → premisesIn way done ≡ true
       → gives hyps fs way z ≡ true → Derives hyps z
