@@ -25,7 +25,7 @@ pub data Row : Type 0 where
   listed : String → List String → Row
   run-on : String → List ℕ → ℕ → ℕ → List ℕ → Row
 
--- Both buffers are longer than what stands in them; the bytes behind are none that a record or an answer has.
+-- Both buffers are longer than what stands in them; the bytes behind are none that these records and answers have.
 unfoldable pub filled : ℕ → List ℕ → List ℕ
 filled size front = front ++ drop (length front) (replicate size 0xEE)
 
@@ -82,29 +82,45 @@ whole = rows (r1 ∷ (r2 ∷ (r3 ∷ (r4 ∷ []))))
 unfoldable pub exchanged : List ℕ
 exchanged = rows (r2 ∷ (r1 ∷ (r3 ∷ (r4 ∷ []))))
 
+-- The rows that 01 stars, in its order; and three that it names beside them: the two of case 11, and rule 3 under an implication.
 unfoldable pub table : List Row
 table =
-    run-on "" [] 0 0 [] ∷
+    -- 1: the empty file has nothing on its list, and its journal is finished
+    listed "" [] ∷
+    (run-on "" [] 0 0 [] ∷
+    -- 2
     (asked case2 (Yes ∷ (Yes ∷ (No ∷ []))) ∷
+    -- 3: under a quotation, T is given too
     (asked "Q S a T\n" (Yes ∷ []) ∷
+    -- 4: put does not go up to said; said goes down to put
     (asked "H P a b\nQ S a b\n" (No ∷ []) ∷
     (asked "H S a b\nQ P a b\n" (Yes ∷ []) ∷
+    -- 5, 6 and 7: an implication follows from its conclusion, and from nothing else
     (asked "H b\nQ > c b\n" (Yes ∷ []) ∷
     (asked "Q > b b\n" (No ∷ []) ∷
     (asked "H > b c\nH > c d\nQ > b d\n" (No ∷ []) ∷
+    -- 8
     (asked "H + S a b S a c\nQ S a + b c\n" (Yes ∷ []) ∷
+    -- 9: the list has what no line spells
     (asked "H S a > b c\nH P a b\nQ P a c\nQ S a c\n" (Yes ∷ (No ∷ [])) ∷
+    -- 10
     (asked "H P a S c b\nQ S a P c b\n" (No ∷ []) ∷
+    -- 11: a quotation is not dropped; a hypothesis below a query counts for it
+    (asked "H S a + b c\nQ b\n" (No ∷ []) ∷
+    (asked "Q b\nH b\n" (Yes ∷ []) ∷
+    -- rule 3 touches only the outermost row of quotations
+    (asked "H > c S a b\nQ > c P a b\n" (No ∷ []) ∷
+    -- 2: its list, its journal from empty, cut to 20 bytes, with its first two records exchanged, with only its fourth record
     (listed case2 ("> S bank paid paid" ∷ ("S bank paid" ∷ ("P bank paid" ∷ ("paid" ∷ ("S bank lien" ∷ ("P bank lien" ∷ [])))))) ∷
     (run-on case2 [] 0 4 whole ∷
     (run-on case2 (take 20 whole) 2 2 whole ∷
     (run-on case2 exchanged 4 0 exchanged ∷
-    (run-on case2 (rows (r4 ∷ [])) 0 4 whole ∷ [])))))))))))))))
+    (run-on case2 (rows (r4 ∷ [])) 0 4 whole ∷ [])))))))))))))))))))
 
 pub every-row : Each table
 unfolding table outcome filled enough ended rows highFirst whole exchanged Run.answerByte
 every-row = (
-  (refl, refl),
+  refl,
   (
     (refl, refl),
     (
@@ -119,7 +135,37 @@ every-row = (
               (refl, refl),
               (
                 (refl, refl),
-                ((refl, refl), ((refl, refl), ((refl, refl), (refl, ((refl, refl), ((refl, refl), ((refl, refl), ((refl, refl), tt)))))))),
+                (
+                  (refl, refl),
+                  (
+                    (refl, refl),
+                    (
+                      (refl, refl),
+                      (
+                        (refl, refl),
+                        (
+                          (refl, refl),
+                          (
+                            (refl, refl),
+                            (
+                              (refl, refl),
+                              (
+                                refl,
+                                (
+                                  (refl, refl),
+                                  (
+                                    (refl, refl),
+                                    ((refl, refl), ((refl, refl), tt)),
+                                  ),
+                                ),
+                              ),
+                            ),
+                          ),
+                        ),
+                      ),
+                    ),
+                  ),
+                ),
               ),
             ),
           ),
