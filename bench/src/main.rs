@@ -1,0 +1,44 @@
+//! `bench TABLE PICTURE` times the engine under test and the fast sibling side
+//! by side on files of growing size, checks that they leave the same journals,
+//! and writes a Markdown table and an SVG picture to the two paths. The table
+//! is printed as well.
+
+mod files;
+mod picture;
+mod table;
+mod timing;
+
+use std::env;
+use std::fs;
+use std::process::ExitCode;
+use timing::Row;
+
+fn main() -> ExitCode {
+    let arguments: Vec<String> = env::args().skip(1).collect();
+    let [table_path, picture_path] = arguments.as_slice() else {
+        eprintln!("usage: bench TABLE PICTURE");
+        return ExitCode::from(2);
+    };
+    let rows = all_rows();
+    let table = table::markdown(&rows);
+    print!("{table}");
+    let written =
+        fs::write(table_path, &table).and_then(|()| fs::write(picture_path, picture::svg(&rows)));
+    match written {
+        Ok(()) => ExitCode::SUCCESS,
+        Err(error) => {
+            eprintln!("{error}");
+            ExitCode::FAILURE
+        }
+    }
+}
+
+fn all_rows() -> Vec<Row> {
+    let mut rows = Vec::new();
+    for kind in files::KINDS {
+        for nodes in files::NODES {
+            rows.push(timing::row(kind.name, nodes, &(kind.make)(nodes)));
+        }
+    }
+    rows
+}

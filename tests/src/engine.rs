@@ -1,0 +1,97 @@
+//! Which engine is under test: the one switch between the proved library and
+//! its stand-in.
+
+use second::{fast, slow, Run};
+
+#[cfg(feature = "proved")]
+pub use proved::run as under_test;
+#[cfg(not(feature = "proved"))]
+pub use second::fast::run as under_test;
+
+/// What the engine under test is called in what is printed.
+pub const NAME: &str = if cfg!(feature = "proved") {
+    "proved library"
+} else {
+    "fast sibling"
+};
+
+/// How many files with long lists a gate run takes. Without the proved library
+/// only the slow engine is left to compare with, and few will do.
+pub const LARGE_FILES: usize = if cfg!(feature = "proved") { 60 } else { 15 };
+
+/// The longest list for which the slow engine is quick enough on a gate run.
+const LONGEST_SLOW_LIST: usize = 400;
+
+/// The engine to compare with on this file: the slow one, and for long lists
+/// the fast sibling unless it is itself under test.
+pub fn reference(file: &[u8]) -> Run {
+    let is_long = match fast::read(file).and_then(|parsed| fast::list(&parsed)) {
+        Ok(list) => list.listed() > LONGEST_SLOW_LIST,
+        Err((code, _)) => code == 5,
+    };
+    if cfg!(feature = "proved") && is_long {
+        fast::run
+    } else {
+        slow::run
+    }
+}
+
+#[cfg(feature = "proved")]
+mod proved {
+    use second::Report;
+
+    #[repr(C)]
+    struct CReport {
+        code: usize,
+        place: usize,
+        kept: usize,
+        added: usize,
+        finished: bool,
+        used: usize,
+    }
+
+    extern "C" {
+        fn brimusket_run(
+            file: *const u8,
+            file_len: usize,
+            journal: *mut u8,
+            journal_len: usize,
+            used: usize,
+            limit: usize,
+            answers: *mut u8,
+            answers_len: usize,
+        ) -> CReport;
+    }
+
+    /// The proved library's run.
+    pub fn run(
+        file: &[u8],
+        journal: &mut [u8],
+        used: usize,
+        limit: usize,
+        answers: &mut [u8],
+    ) -> Report {
+        // SAFETY: each pointer comes with the length of its own slice, no two
+        // slices overlap, and the library keeps none of them.
+        let report = unsafe {
+            brimusket_run(
+                file.as_ptr(),
+                file.len(),
+                journal.as_mut_ptr(),
+                journal.len(),
+                used,
+                limit,
+                answers.as_mut_ptr(),
+                answers.len(),
+            )
+        };
+        Report {
+            code: report.code,
+            place: report.place,
+            kept: report.kept,
+            added: report.added,
+            finished: report.finished,
+            used: report.used,
+        }
+    }
+}

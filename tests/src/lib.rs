@@ -1,0 +1,13 @@
+//! The engine under test against the second program.
+//!
+//! Made-up files ([`made_up`]) and journals ([`journals`]) become cases
+//! ([`cases`]); each is given to both engines on equal copies, and everything
+//! they return or leave behind is compared ([`compare`]). Which engine is under
+//! test is decided in [`engine`] alone.
+
+pub mod cases;
+pub mod compare;
+pub mod engine;
+pub mod journals;
+pub mod made_up;
+pub mod rng;

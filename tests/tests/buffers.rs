@@ -1,0 +1,131 @@
+//! Codes 6, 7 and 8 at the length where they stop and one below, alone and
+//! together, and what a refusal leaves alone.
+
+use against::cases::{from_empty, sizes};
+use against::compare::{Case, Checker};
+use against::made_up;
+use against::rng::Rng;
+use second::Report;
+
+const FILLER: u8 = 0x3C;
+
+/// Accepted files, of which L and the number of queries are known.
+fn files(seed: u64, count: usize) -> impl Iterator<Item = (Vec<u8>, usize, usize)> {
+    let mut rng = Rng::new(seed);
+    let made = std::iter::repeat_with(move || rng.one_of(&made_up::MAKERS)(&mut rng));
+    made.filter_map(|file| {
+        let (listed, queries) = sizes(&file)?;
+        (listed > 0 && queries > 0).then_some((file, listed, queries))
+    })
+    .take(count)
+}
+
+/// A case with buffers of these lengths.
+fn case(file: &[u8], journal: usize, used: usize, answers: usize) -> Case {
+    Case {
+        file: file.to_vec(),
+        journal: vec![FILLER; journal],
+        used,
+        limit: 3,
+        answers: vec![FILLER; answers],
+    }
+}
+
+/// Checks that the case is refused with this code and nothing else happens.
+fn assert_refused(checker: &mut Checker, case: &Case, code: usize, place: usize) {
+    let outcome = checker.check(case);
+    assert_eq!(outcome.report, Report::refusal(code, place, case.used));
+    assert_eq!(outcome.journal, case.journal);
+    assert_eq!(outcome.answers, case.answers);
+}
+
+#[test]
+fn at_and_one_below() {
+    let mut checker = Checker::default();
+    for (file, listed, queries) in files(31, 120) {
+        let room = 9 * listed;
+        let accepted = checker.check(&case(&file, room, room, queries));
+        assert_eq!(accepted.report.code, 0);
+        assert_refused(&mut checker, &case(&file, room - 1, 0, queries), 6, 0);
+        assert_refused(&mut checker, &case(&file, room, room + 1, queries), 7, 0);
+        assert_refused(&mut checker, &case(&file, room, usize::MAX, queries), 7, 0);
+        assert_refused(&mut checker, &case(&file, room, room, queries - 1), 8, 0);
+        assert_refused(&mut checker, &case(&file, 0, 0, 0), 6, 0);
+    }
+    println!("{} calls", checker.calls);
+}
+
+#[test]
+fn the_first_that_applies() {
+    let mut checker = Checker::default();
+    for (file, listed, queries) in files(32, 80) {
+        let room = 9 * listed;
+        assert_refused(
+            &mut checker,
+            &case(&file, room - 1, room, queries - 1),
+            6,
+            0,
+        );
+        assert_refused(&mut checker, &case(&file, room - 1, room, queries), 6, 0);
+        assert_refused(&mut checker, &case(&file, room - 1, 0, queries - 1), 6, 0);
+        assert_refused(
+            &mut checker,
+            &case(&file, room, room + 9, queries - 1),
+            7,
+            0,
+        );
+        let place = file.len();
+        let damaged = [&file[..], b"Q  b\n"].concat();
+        assert_refused(&mut checker, &case(&damaged, room - 1, room, 0), 2, place);
+    }
+    println!("{} calls", checker.calls);
+}
+
+#[test]
+fn longer_buffers_than_needed() {
+    let mut checker = Checker::default();
+    let mut rng = Rng::new(33);
+    for (file, listed, queries) in files(34, 100) {
+        let (journal, answers) = (9 * listed + rng.below(50), queries + rng.below(5));
+        let outcome = checker.check(&case(&file, journal, rng.below(journal + 1), answers));
+        assert_eq!(outcome.report.code, 0);
+        assert!(outcome.answers[queries..]
+            .iter()
+            .all(|byte| *byte == FILLER));
+    }
+    println!("{} calls", checker.calls);
+}
+
+/// A file's own codes leave the buffers alone and the used length as it was,
+/// also one over the buffer.
+#[test]
+fn refused_files() {
+    let mut checker = Checker::default();
+    let edges = [
+        made_up::edges_of_length(),
+        made_up::edges_of_form(),
+        made_up::edges_of_nodes(),
+        made_up::edges_of_depth(),
+    ];
+    for edge in edges.iter().flatten().filter(|edge| edge.code != 0) {
+        for used in [0, 7, 20, 21] {
+            let case = case(&edge.file, 20, used, 2);
+            assert_refused(&mut checker, &case, edge.code, edge.place);
+        }
+    }
+    println!("{} calls", checker.calls);
+}
+
+/// With nothing listed and nothing asked, empty buffers do.
+#[test]
+fn no_buffers_at_all() {
+    let mut checker = Checker::default();
+    let empty = case(b"", 0, 0, 0);
+    assert!(checker.check(&empty).report.finished);
+    assert_refused(&mut checker, &case(b"", 0, 1, 0), 7, 0);
+    let no_query = Case {
+        answers: Vec::new(),
+        ..from_empty(b"H b\n")
+    };
+    assert_eq!(checker.check(&no_query).report.added, 1);
+}
