@@ -73,7 +73,7 @@ entry-named start text (some s) rest read later e m =
     (λ (i : List·Memᴰ e rest). later e i)
     (List·Memᴰ·cases-cons m)
 
-entries-named : (lines : List Line) (e : Entry) → List·Memᴰ e (entriesFrom lines) → isNamed (formulaIn (e .sentence)) ≡ true
+pub entries-named : (lines : List Line) (e : Entry) → List·Memᴰ e (entriesFrom lines) → isNamed (formulaIn (e .sentence)) ≡ true
 unfolding entriesFrom
 entries-named [] e m = absurd (List·Memᴰ·not-nil m)
 entries-named (line ∷ rest) e m =

@@ -3,7 +3,7 @@ use Prim.Native.Nat.{ℕ, zero, suc, _+_, _*_, _<_}
 use mathlib.Core.Path.{_≡_}
 use mathlib.Core.List.{List, [], _∷_, _++_}
 use lib.ListN.{length, getD, take, drop}
-use Rattle.infon.specs.Formula.{Told, said, put, Formula, True, name, and, implies, quoted, spelling, nodes}
+use Rattle.infon.specs.Formula.{Told, said, put, Quotation, Formula, True, name, and, implies, quoted, spelling, nodes}
 use Rattle.infon.specs.Policy.{Entry, entriesOf, formulaIn}
 use Rattle.infon.specs.Listing.{Prefix}
 
@@ -24,13 +24,15 @@ none-above = 0xFFFF
 unfoldable pub part : Node → ℕ → Formula → Node
 part n behind x = record { place = n .place + behind; line = n .line; above = n .above; pre = n .pre; what = x }
 
+unfoldable pub inner : ℕ → Node → Quotation → Formula → Node
+inner i n q x = record { place = n .place + (3 + length (q .principal)); line = n .line; above = i; pre = q ∷ n .pre; what = x }
+
 unfoldable pub kidsOf : ℕ → Node → Formula → List Node
 kidsOf i n True = []
 kidsOf i n (name a) = []
 kidsOf i n (and x y) = part n 2 x ∷ (part n (3 + length (spelling x)) y ∷ [])
 kidsOf i n (implies x y) = part n 2 x ∷ (part n (3 + length (spelling x)) y ∷ [])
-kidsOf i n (quoted q x) =
-    record { place = n .place + (3 + length (q .principal)); line = n .line; above = i; pre = q ∷ n .pre; what = x } ∷ []
+kidsOf i n (quoted q x) = inner i n q x ∷ []
 
 unfoldable pub kids : ℕ → Node → List Node
 kids i n = kidsOf i n (n .what)
@@ -49,10 +51,12 @@ unfoldable pub nodeAt : List Node → ℕ → Node
 nodeAt row i = getD (after 0 i row) 0 nowhere
 
 -- the row that a file begins with: each line's formula, two bytes behind the line's start
+unfoldable pub root : Entry → Node
+root e = record { place = e .start + 2; line = e .start; above = none-above; pre = []; what = formulaIn (e .sentence) }
+
 unfoldable pub roots : List Entry → List Node
 roots [] = []
-roots (e ∷ rest) =
-    record { place = e .start + 2; line = e .start; above = none-above; pre = []; what = formulaIn (e .sentence) } ∷ roots rest
+roots (e ∷ rest) = root e ∷ roots rest
 
 unfoldable pub countNodes : List Node → ℕ
 countNodes [] = 0

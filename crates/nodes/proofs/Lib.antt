@@ -1,0 +1,4 @@
+pub mod Order
+pub mod Every
+pub mod Spelled
+pub mod Codes
