@@ -40,6 +40,11 @@ unfolding letterOf isWordByte isNameByte bytes lacks every
 letter-lacks b said outside = passed-lacks isWordByte b (bytes "S") outside refl
 letter-lacks b put outside = passed-lacks isWordByte b (bytes "P") outside refl
 
+pub letter-length : (told : Told) → length (letterOf told) ≡ 1
+unfolding letterOf bytes
+letter-length said = refl
+letter-length put = refl
+
 pub words-lack : (b : ℕ) (x : Formula) → isWordByte b ≡ false → isNamed x ≡ true → every (lacks b) (words x) ≡ true
 unfolding words isNamed isWordByte isNameByte bytes lacks every
 words-lack b True outside h = true-and (passed-lacks isWordByte b (bytes "T") outside refl) refl
@@ -69,7 +74,7 @@ unlike-name a word named unnamed = by-test (decided (alike a word))
     by-test (inl e) = absurd (true≢false (sym named ∙ ap isName (alike-eq a word e) ∙ unnamed))
     by-test (inr e) = e
 
-take-name : (a : List ℕ) (waiting : List Formula) → isName a ≡ true → takeWord a waiting ≡ some (name a ∷ waiting)
+pub take-name : (a : List ℕ) (waiting : List Formula) → isName a ≡ true → takeWord a waiting ≡ some (name a ∷ waiting)
 unfolding takeWord isName isNameByte every bytes
 take-name a waiting h =
     rw (
@@ -81,7 +86,7 @@ take-name a waiting h =
       h,
     )
 
-take-letter : (told : Told) (waiting : List Formula) → takeWord (letterOf told) waiting ≡ quote told waiting
+pub take-letter : (told : Told) (waiting : List Formula) → takeWord (letterOf told) waiting ≡ quote told waiting
 unfolding takeWord letterOf alike bytes
 take-letter said waiting = refl
 take-letter put waiting = refl

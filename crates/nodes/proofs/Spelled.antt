@@ -13,9 +13,9 @@ use lib.ListN.{length, getD, take, drop, length-append, length-drop}
 use lib.Seq.{drop-drop, drop-append-seam, take-append-seam, getD-drop}
 use borrow.Author.Tests.{not-false}
 use Rattle.infon.specs.Bytes.{bytes, space, lineFeed}
-use Rattle.infon.specs.Formula.{Told, said, put, Quotation, Formula, True, name, and, implies, quoted, letterOf, words, joined, spelling}
+use Rattle.infon.specs.Formula.{Quotation, Formula, True, name, and, implies, quoted, letterOf, words, joined, spelling}
 use Rattle.infon.specs.Policy.{cut, Line, placed, linesOf, Sentence, hypothesis, query, sentenceOf, isSome, isWellFormed, withEntry, entriesFrom, entriesOf, formulaIn, passed, when, code2From, code2}
-use Rattle.infon.proofs.Readable.{words-nonempty}
+use Rattle.infon.proofs.Readable.{words-nonempty, letter-length}
 use Rattle.infon.proofs.Lines.{cut-concat, opening, lineOf, line-read}
 use Rattle.infon.proofs.Cuts.{andThen-passed, when-passed}
 use Rattle.nodes.specs.Nodes.{Node, part, inner, kidsOf, kids, after, nodeAt, root, roots, countNodes, ownBytes, nodesOf}
@@ -94,11 +94,6 @@ unfolding spelling words
 quoted-spelled q x =
     joined-cons (letterOf (q .told)) (q .principal ∷ words x) cons≢nil
     ∙ ap (λ s. letterOf (q .told) ++ (space ∷ s)) (joined-cons (q .principal) (words x) (words-nonempty x))
-
-pub letter-length : (told : Told) → length (letterOf told) ≡ 1
-unfolding letterOf bytes
-letter-length said = refl
-letter-length put = refl
 
 -- A row of nodes whose spellings stand one behind the other: the first at a place of a line, the others behind it, up to the
 -- end of the file, behind whose last line feed one more line would have its formula.

@@ -1,0 +1,5 @@
+pub mod Bytewise
+pub mod Breaks
+pub mod Parses
+pub mod Tokenised
+pub mod Counted
