@@ -37,18 +37,18 @@ unfolding countOf
 count-nothing [] = refl
 count-nothing (n ∷ rest) = count-nothing rest
 
-recorded-more : (n : ℕ) (done : List Record) (r : Record) → isRecorded n (done ++ (r ∷ [])) ≡ isRecorded n done || eqb n (r .formula)
+pub recorded-more : (n : ℕ) (done : List Record) (r : Record) → isRecorded n (done ++ (r ∷ [])) ≡ isRecorded n done || eqb n (r .formula)
 unfolding isRecorded someOf
 recorded-more n done r =
     someOf-append (λ (s : Record). eqb n (s .formula)) done (r ∷ [])
     ∙ ap (λ (b : Bool). someOf (λ (s : Record). eqb n (s .formula)) done || b) (or-false (eqb n (r .formula)))
 
-recorded-now : (done : List Record) (r : Record) → isRecorded (r .formula) (done ++ (r ∷ [])) ≡ true
+pub recorded-now : (done : List Record) (r : Record) → isRecorded (r .formula) (done ++ (r ∷ [])) ≡ true
 recorded-now done r =
     recorded-more (r .formula) done r
     ∙ (ap (λ (b : Bool). isRecorded (r .formula) done || b) (eq-eqb (r .formula) (r .formula) refl) ∙ or-true (isRecorded (r .formula) done))
 
-recorded-other : (n : ℕ) (done : List Record) (r : Record) → (n ≡ r .formula → ⊥) → isRecorded n (done ++ (r ∷ [])) ≡ isRecorded n done
+pub recorded-other : (n : ℕ) (done : List Record) (r : Record) → (n ≡ r .formula → ⊥) → isRecorded n (done ++ (r ∷ [])) ≡ isRecorded n done
 recorded-other n done r apart =
     recorded-more n done r
     ∙ (ap (λ (b : Bool). isRecorded n done || b) (ne-eqb n (r .formula) apart) ∙ or-false (isRecorded n done))
