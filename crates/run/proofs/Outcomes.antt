@@ -1,0 +1,86 @@
+-- What a call comes to, by the first code that applies.
+-- Assumes nothing.
+use Prim.Native.Nat.{ℕ, _+_, _*_, _/_, _≤_, _<_}
+use native.Mathlib.Omega.{arith}
+use mathlib.Core.Path.{_≡_, refl, _∙_, ap}
+use mathlib.Core.List.{List, [], _++_}
+use lib.ListN.{length, length-append}
+use lib.Dec.{ltb}
+use borrow.Author.Tests.{lt-ltb, le-ltb}
+use Rattle.infon.specs.declared.Record.{Record}
+use Rattle.infon.specs.Policy.{entriesOf, hypothesesOf, queriesOf, Verdict, passed, refused, andThen, when}
+use Rattle.infon.specs.Listing.{listOf}
+use Rattle.infon.specs.Journal.{recordBytes, wholeRecords, keptOf, grown}
+use Rattle.infon.specs.Run.{fileVerdict, code6, code7, code8, code9, Outcome, refusal, success, settled, run}
+use Rattle.infon.proofs.Grown.{kept-good, grown-good, good-append}
+use Rattle.infon.proofs.Missing.{row-short}
+
+module _ (file journal : List ℕ) (used limit : ℕ) (answers : List ℕ) where
+  kept : List Record
+  kept = keptOf (hypothesesOf (entriesOf file)) (listOf (entriesOf file)) journal used
+
+  added : List Record
+  added = grown (hypothesesOf (entriesOf file)) (listOf (entriesOf file)) kept limit
+
+  -- the codes behind those about the file alone
+  later : Verdict
+  later =
+      andThen (code6 (listOf (entriesOf file)) journal)
+      (andThen (code7 journal used) (andThen (code8 (queriesOf (entriesOf file)) answers) (code9 kept added journal)))
+
+  outcome : Outcome
+  outcome = success (hypothesesOf (entriesOf file)) (listOf (entriesOf file)) (queriesOf (entriesOf file)) kept added journal answers
+
+  run-is : (v w : Verdict) → fileVerdict file ≡ v → later ≡ w → run file journal used limit answers ≡ settled (andThen v w) used journal answers outcome
+  unfolding run later outcome kept added
+  run-is v w first second = ap (λ (u : Verdict). settled (andThen u later) used journal answers outcome) first ∙ ap (λ (u : Verdict). settled (andThen v u) used journal answers outcome) second
+
+  pub file-refused : (code place : ℕ) → fileVerdict file ≡ refused code place
+      → run file journal used limit answers ≡ refusal code place used journal answers
+  unfolding settled andThen
+  file-refused code place h = run-is (refused code place) later h refl
+
+  pub refused-6 : fileVerdict file ≡ passed → length journal < recordBytes * length (listOf (entriesOf file))
+      → run file journal used limit answers ≡ refusal 6 0 used journal answers
+  unfolding settled andThen later code6 when
+  refused-6 pass h =
+      run-is passed (refused 6 0) pass (rw (lt-ltb (length journal) (recordBytes * length (listOf (entriesOf file))) h))
+
+  pub refused-7 : fileVerdict file ≡ passed → recordBytes * length (listOf (entriesOf file)) ≤ length journal → length journal < used
+      → run file journal used limit answers ≡ refusal 7 0 used journal answers
+  unfolding settled andThen later code6 code7 when
+  refused-7 pass fits h =
+      run-is passed (refused 7 0) pass
+      (rw (le-ltb (length journal) (recordBytes * length (listOf (entriesOf file))) fits, lt-ltb (length journal) used h))
+
+  pub refused-8 : fileVerdict file ≡ passed → recordBytes * length (listOf (entriesOf file)) ≤ length journal → used ≤ length journal
+      → length answers < length (queriesOf (entriesOf file)) → run file journal used limit answers ≡ refusal 8 0 used journal answers
+  unfolding settled andThen later code6 code7 code8 when
+  refused-8 pass fits inside h =
+      run-is passed (refused 8 0) pass
+      (rw (le-ltb (length journal) (recordBytes * length (listOf (entriesOf file))) fits, le-ltb (length journal) used inside, lt-ltb (length answers) (length (queriesOf (entriesOf file))) h))
+
+  -- code 9 is never given: there is room for the whole list
+  room : recordBytes * length (listOf (entriesOf file)) ≤ length journal → recordBytes * (length kept + length added) ≤ length journal
+  unfolding kept added keptOf recordBytes
+  room fits =
+      let all =
+        row-short (hypothesesOf (entriesOf file)) (listOf (entriesOf file)) (kept ++ added)
+        (good-append (hypothesesOf (entriesOf file)) (listOf (entriesOf file)) [] kept added
+        (kept-good (hypothesesOf (entriesOf file)) (listOf (entriesOf file)) [] (wholeRecords (used / 9) journal))
+        (grown-good (hypothesesOf (entriesOf file)) (listOf (entriesOf file)) kept limit)) in
+      let sum = length-append kept added in
+      omega arith
+
+  pub succeeded : fileVerdict file ≡ passed → recordBytes * length (listOf (entriesOf file)) ≤ length journal → used ≤ length journal
+      → length (queriesOf (entriesOf file)) ≤ length answers
+      → run file journal used limit answers
+      ≡ success (hypothesesOf (entriesOf file)) (listOf (entriesOf file)) (queriesOf (entriesOf file))
+      (keptOf (hypothesesOf (entriesOf file)) (listOf (entriesOf file)) journal used)
+      (grown (hypothesesOf (entriesOf file)) (listOf (entriesOf file))
+      (keptOf (hypothesesOf (entriesOf file)) (listOf (entriesOf file)) journal used) limit)
+      journal answers
+  unfolding settled andThen later code6 code7 code8 code9 when outcome kept added
+  succeeded pass fits inside enough =
+      run-is passed passed pass
+      (rw (le-ltb (length journal) (recordBytes * length (listOf (entriesOf file))) fits, le-ltb (length journal) used inside, le-ltb (length answers) (length (queriesOf (entriesOf file))) enough, le-ltb (length journal) (recordBytes * (length kept + length added)) (room fits)))
