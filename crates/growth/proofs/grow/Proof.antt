@@ -1,5 +1,6 @@
 -- `growth::grow` meets its contract. The invariant: what is added in all is what is added so far and what is added from here on.
--- The measure is what is left of the limit. Assumes nothing.
+-- The measure is what is left of the limit.
+-- Assumes nothing.
 use Prim.Native.Nat.{_-_}
 use lib.ListN.{length-take, length-drop}
 use Rattle.growth.proofs.Growing.{Growing, begin, mark-place, record-room, turn, none-left, limit-reached}
