@@ -48,7 +48,7 @@ abbrev pub Below : ℕ → List Record → Type 0
 Below n done = (q : Record) → List·Memᴰ q done → q .formula < n
 
 -- what `firstOf` gives passes the test
-firstOf-passes : {A : Type 0} (test : A → Bool) (xs : List A) (x : A) → firstOf test xs ≡ some x → test x ≡ true
+pub firstOf-passes : {A : Type 0} (test : A → Bool) (xs : List A) (x : A) → firstOf test xs ≡ some x → test x ≡ true
 unfolding firstOf
 firstOf-passes test [] x e = absurd (Option·none-ne-some x e)
 firstOf-passes test (y ∷ ys) x e =

@@ -1,13 +1,13 @@
 -- Bytes that are written one after the other are written together.
 -- Assumes nothing.
-use Prim.Native.Nat.{ℕ, _+_, _/_, _%_, _≤_, _<_}
+use Prim.Native.Nat.{ℕ, _+_, _-_, _/_, _%_, _≤_, _<_}
 use native.Mathlib.Numerals.{add-one}
-use native.Mathlib.Nat.{add-assoc}
+use native.Mathlib.Nat.{add-zero, zero-add, add-assoc}
 use native.Mathlib.Omega.{arith}
 use mathlib.Core.Path.{_≡_, sym, _∙_, ap}
-use mathlib.Core.List.{List, [], _∷_, _++_, append-assoc}
-use lib.ListN.{length, take, drop, set, length-append}
-use lib.Seq.{sets, sets-eq, drop-drop}
+use mathlib.Core.List.{List, [], _∷_, _++_, append-assoc, append-nil}
+use lib.ListN.{length, take, drop, set, length-append, length-drop, take-append-drop, drop-of-length-le}
+use lib.Seq.{take-all, sets, sets-eq, drop-drop}
 use Rattle.infon.specs.declared.Record.{Record}
 use Rattle.infon.specs.Journal.{ruleOf, firstPremise, secondPremise, twoBytes, spelled}
 use Rattle.infon.specs.Run.{written}
@@ -30,6 +30,21 @@ written-more s at new more fits =
     ∙ drop-drop (length more) (at + length new) s
     ∙ ap (λ (k : ℕ). drop k s) (add-assoc at (length new) (length more) ∙ ap (λ (k : ℕ). at + k) (sym (length-append new more))) in
     rw (front, behind, append-assoc, append-assoc)
+
+pub written-nothing : (s : List ℕ) (at : ℕ) → written s at [] ≡ s
+unfolding written
+written-nothing s at = rw add-zero (take-append-drop at s)
+
+-- what is written at the front of a tail that is lent and comes back
+pub tail-written : (s : List ℕ) (at : ℕ) (new : List ℕ) {last : List ℕ} → at + length new ≤ length s
+    → last ≡ written (take (length s - at) (drop at s)) 0 new
+    → take at s ++ (last ++ drop (length s - at) (drop at s)) ≡ written s at new
+unfolding written
+tail-written s at new fits e =
+    let size = length-drop at s in
+    let lent : take (length s - at) (drop at s) ≡ drop at s = take-all (length s - at) (drop at s) (omega arith) in
+    let behind : drop (length s - at) (drop at s) ≡ [] = drop-of-length-le (drop at s) {i = length s - at} (omega arith) in
+    rw (e, lent, behind, append-nil, zero-add, drop-drop)
 
 pub number-written : (s : List ℕ) (at number : ℕ) → at + 1 < length s
     → set (set s at (number / 256 % 256)) (at + 1) (number % 256) ≡ written s at (twoBytes number)

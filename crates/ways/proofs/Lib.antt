@@ -1,0 +1,4 @@
+pub mod Firsts
+pub mod Leads
+pub mod Pairs
+pub mod Scan

@@ -1,0 +1,218 @@
+// The least way to a formula and the next record, found along chains of formulas that share a part or a bottom.
+use infon::Record;
+use infon::Way;
+use links::BOTTOMS;
+use links::LEFTS;
+use links::NEXTS;
+use links::RIGHTS;
+use rules::BOTTOM;
+use rules::CONJUNCTION;
+use rules::HYPOTHESIS;
+use rules::IMPLICATION;
+use rules::KIND;
+use rules::LEFT;
+use rules::RIGHT;
+use rules::TRUTH;
+ghost use mathlib.Core.Path.{_≡_};
+ghost use Prim.Native.Nat.{_+_, _<_, _≤_};
+ghost use mathlib.Core.List.{map};
+ghost use lib.ListN.{length};
+ghost use Rattle.infon.specs.declared.Way.the-variants.{Weaken, Both, Apply, Attach};
+ghost use Rattle.infon.specs.Journal.{numbersFrom};
+ghost use Rattle.links.specs.Chains.{ChainOf, Ready};
+ghost use Rattle.ways.specs.Search.{leastPremise, leastWhole, leastAmong, pairsOf, lastWays, leastWayIn, dueWayIn, nextOf, nextIn, conditionIn};
+
+// The answer of a search for a way.
+pub enum Least {
+    By(Way),
+    Missing,
+}
+
+// The answer to "The next record, if any".
+pub enum Next {
+    Due(Record),
+    Finished,
+}
+
+// Rule 3: the least recorded formula that weakens to f, n where there is none.
+fn stronger(table: &[u16], links: &[u16], marks: &[u8], n: usize, f: usize) -> usize
+    requires { ⌜ Ready (now table) (now links) (now marks) n × (f < n) ⌝ }
+    ensures { λ r. ⌜ r ≡ leastPremise Weaken (now (table .entry)) n (now (marks .entry)) f ⌝ }
+{
+    let x = rules::cell_at(table, BOTTOM, f);
+    let mut p = links::linked_at(links, BOTTOMS + x);
+    while p < n {
+        if rules::is_marked(marks, n, p) {
+            if rules::weakens(table, p, f) {
+                return p;
+            }
+        }
+        p = links::linked_at(links, BOTTOMS + NEXTS + p);
+    }
+    n
+}
+
+// Rules 4 and 5: the least recorded conjunction with f as its left or its right part, as the column and its chains say; n where
+// there is none.
+fn whole_with(
+    table: &[u16],
+    links: &[u16],
+    marks: &[u8],
+    n: usize,
+    f: usize,
+    column: usize,
+    at: usize,
+) -> usize
+    requires { ⌜ Ready (now table) (now links) (now marks) n × (f < n) × (column < 6) × (at + 8192 ≤ length (now links))
+        × ChainOf (now table) column n (now links) at ⌝ }
+    ensures { λ r. ⌜ r ≡ leastWhole column (now (table .entry)) n (now (marks .entry)) f ⌝ }
+{
+    let mut p = links::linked_at(links, at + f);
+    while p < n {
+        if rules::is_marked(marks, n, p) {
+            if rules::has_part(table, CONJUNCTION, column, p, f) {
+                return p;
+            }
+        }
+        p = links::linked_at(links, at + NEXTS + p);
+    }
+    n
+}
+
+// Rule 6: f from both its parts.
+fn joined(table: &[u16], marks: &[u8], n: usize, f: usize) -> Least
+    requires { ⌜ (n ≤ 4096) × (24576 ≤ length (now table)) × (n ≤ length (now marks)) × (f < n) ⌝ }
+    ensures { λ r. ⌜ r ≡ leastAmong (pairsOf Both n) (now (table .entry)) n (now (marks .entry)) f ⌝ }
+{
+    if rules::cell_at(table, KIND, f) == CONJUNCTION {
+        let left = rules::cell_at(table, LEFT, f);
+        let right = rules::cell_at(table, RIGHT, f);
+        if rules::are_marked(marks, n, left, right) {
+            return Least::By(Way::Both(left, right));
+        }
+    }
+    Least::Missing
+}
+
+// The condition of a recorded implication that is recorded itself, n where q is none.
+fn condition(table: &[u16], marks: &[u8], n: usize, q: usize) -> usize
+    requires { ⌜ (n ≤ 4096) × (24576 ≤ length (now table)) × (n ≤ length (now marks)) × (q < n) ⌝ }
+    ensures { λ r. ⌜ r ≡ conditionIn (now (table .entry)) n (now (marks .entry)) q ⌝ }
+{
+    if rules::is_marked(marks, n, q) {
+        if rules::cell_at(table, KIND, q) == IMPLICATION {
+            let p = rules::cell_at(table, LEFT, q);
+            if rules::is_marked(marks, n, p) {
+                return p;
+            }
+        }
+    }
+    n
+}
+
+// Rule 7: f from the least recorded condition of a recorded implication that ends in f, and the least such implication.
+fn applied(table: &[u16], links: &[u16], marks: &[u8], n: usize, f: usize) -> Least
+    requires { ⌜ Ready (now table) (now links) (now marks) n × (f < n) ⌝ }
+    ensures { λ r. ⌜ r ≡ leastAmong (pairsOf Apply n) (now (table .entry)) n (now (marks .entry)) f ⌝ }
+{
+    let mut first = n;
+    let mut second = n;
+    let mut q = links::linked_at(links, RIGHTS + f);
+    while q < n {
+        let p = condition(table, marks, n, q);
+        if p < first {
+            first = p;
+            second = q;
+        }
+        q = links::linked_at(links, RIGHTS + NEXTS + q);
+    }
+    if first < n {
+        Least::By(Way::Apply(first, second))
+    } else {
+        Least::Missing
+    }
+}
+
+// Rule 8: f from its right part, where f is an implication.
+fn attached(table: &[u16], marks: &[u8], n: usize, f: usize) -> Least
+    requires { ⌜ (n ≤ 4096) × (24576 ≤ length (now table)) × (n ≤ length (now marks)) × (f < n) ⌝ }
+    ensures { λ r. ⌜ r ≡ leastAmong (map Attach (numbersFrom 0 n)) (now (table .entry)) n (now (marks .entry)) f ⌝ }
+{
+    if rules::cell_at(table, KIND, f) == IMPLICATION {
+        let p = rules::cell_at(table, RIGHT, f);
+        if rules::is_marked(marks, n, p) {
+            return Least::By(Way::Attach(p));
+        }
+    }
+    Least::Missing
+}
+
+// Rules 6 to 8.
+fn from_parts(table: &[u16], links: &[u16], marks: &[u8], n: usize, f: usize) -> Least
+    requires { ⌜ Ready (now table) (now links) (now marks) n × (f < n) ⌝ }
+    ensures { λ r. ⌜ r ≡ leastAmong (lastWays n) (now (table .entry)) n (now (marks .entry)) f ⌝ }
+{
+    let both = joined(table, marks, n, f);
+    let Least::Missing = both else {
+        return both;
+    };
+    let apply = applied(table, links, marks, n, f);
+    let Least::Missing = apply else {
+        return apply;
+    };
+    attached(table, marks, n, f)
+}
+
+// The least way to f: the least rule, then the least first and the least second premise.
+fn least_way(table: &[u16], links: &[u16], marks: &[u8], n: usize, f: usize) -> Least
+    requires { ⌜ Ready (now table) (now links) (now marks) n × (f < n) ⌝ }
+    ensures { λ r. ⌜ r ≡ leastWayIn (now (table .entry)) n (now (marks .entry)) f ⌝ }
+{
+    if rules::cell_at(table, HYPOTHESIS, f) == 1 {
+        return Least::By(Way::Hypothesis);
+    }
+    if rules::cell_at(table, KIND, f) == TRUTH {
+        return Least::By(Way::Given);
+    }
+    let weaken = stronger(table, links, marks, n, f);
+    if weaken < n {
+        return Least::By(Way::Weaken(weaken));
+    }
+    let left = whole_with(table, links, marks, n, f, LEFT, LEFTS);
+    if left < n {
+        return Least::By(Way::Left(left));
+    }
+    let right = whole_with(table, links, marks, n, f, RIGHT, RIGHTS);
+    if right < n {
+        return Least::By(Way::Right(right));
+    }
+    from_parts(table, links, marks, n, f)
+}
+
+// The least way to f where f is not recorded yet.
+fn due_way(table: &[u16], links: &[u16], marks: &[u8], n: usize, f: usize) -> Least
+    requires { ⌜ Ready (now table) (now links) (now marks) n × (f < n) ⌝ }
+    ensures { λ r. ⌜ r ≡ dueWayIn (now (table .entry)) n (now (marks .entry)) f ⌝ }
+{
+    if rules::is_marked(marks, n, f) {
+        Least::Missing
+    } else {
+        least_way(table, links, marks, n, f)
+    }
+}
+
+// The next record after the marked ones: the least formula that is not recorded and has a way, by its least way.
+pub fn next_record(table: &[u16], links: &[u16], marks: &[u8], n: usize) -> Next
+    requires { ⌜ Ready (now table) (now links) (now marks) n ⌝ }
+    ensures { λ r. ⌜ r ≡ nextOf (nextIn (now (table .entry)) n (now (marks .entry))) ⌝ }
+{
+    let mut f = 0;
+    while f < n {
+        let due = due_way(table, links, marks, n, f);
+        if let Least::By(way) = due {
+            return Next::Due(Record { formula: f, way });
+        }
+        f += 1;
+    }
+    Next::Finished
+}
