@@ -1,0 +1,145 @@
+-- The steps of a run on a prepared list, put together.
+-- Assumes nothing.
+use Prim.Native.Nat.{ℕ, _+_, _*_, _/_, _≤_, _<_}
+use native.Mathlib.Omega.{arith}
+use mathlib.Core.Path.{_≡_, refl, sym, _∙_, ap, subst}
+use mathlib.Core.Bool.{Bool}
+use mathlib.Core.List.{List, [], _++_, map}
+use lib.ListN.{length, take, getD, replicate, length-replicate, length-append}
+use lib.Seq.{getD-take}
+use Rattle.infon.specs.declared.Record.{Record}
+use Rattle.infon.specs.declared.Report.{Report}
+use Rattle.infon.specs.Formula.{Formula, True}
+use Rattle.infon.specs.Journal.{recordBytes, wholeRecords, spelledAll, keptOf, grown, isFinished}
+use Rattle.infon.specs.Run.{Outcome, written, success, answerByte, answersOf}
+use Rattle.infon.proofs.Rows.{getD-map}
+use Rattle.infon.proofs.Listed.{numbered-mem}
+use Rattle.infon.proofs.Grown.{kept-good, grown-good, good-append}
+use Rattle.infon.proofs.Missing.{row-short}
+use Rattle.infon.specs.Rules.{numbered}
+use Rattle.table.specs.Table.{numberIn, Tabled, tableRows, tableColumns}
+use Rattle.table.specs.Tests.{Held}
+use Rattle.table.proofs.Numbers.{numberIn-below}
+use Rattle.journal.specs.Kept.{keptIn, markAll, Keeps}
+use Rattle.journal.proofs.Holding.{held-zeros, kept-of, kept-held}
+use Rattle.links.specs.Chains.{linkedIn, Ready}
+use Rattle.links.proofs.Linked.{linked-ready, bottoms-below}
+use Rattle.growth.specs.declared.Growth.{Growth}
+use Rattle.growth.specs.Grown.{Roomy, Grows}
+use Rattle.growth.proofs.Joined.{room, added-is, finished-is, marks-hold, journal-is}
+use Rattle.answers.specs.Answered.{Answerable, answeredBytes}
+use Rattle.run.specs.Prepared.{Prepared, Workable, left, Works}
+use Rattle.run.proofs.Answering.{answered}
+
+module _ (hyps fs queries : List Formula) (t : List ℕ) (n : ℕ) (numbers : List ℕ) (asked : ℕ)
+    (prepared : Prepared hyps fs queries t n numbers asked) where
+  pub few : n ≤ 4096
+  unfolding tableRows
+  few = let h = prepared .table .few in let e = prepared .count in omega arith
+
+  pub wide : 24576 ≤ length t
+  unfolding tableRows tableColumns
+  wide = prepared .table .long
+
+  begin : Held hyps fs [] t n (replicate 4096 0)
+  begin = held-zeros hyps fs t n 4096 (prepared .table) (prepared .count) (omega arith)
+
+  module _ (journal : List ℕ) (used kept : ℕ) (marks : List ℕ) (keeps : Keeps t n journal used (replicate 4096 0) kept marks) where
+    kept-is : kept ≡ length (keptOf hyps fs journal used)
+    kept-is = keeps .counted ∙ ap length (kept-of hyps fs t n journal used (replicate 4096 0) begin)
+
+    holds-kept : Held hyps fs (keptOf hyps fs journal used) t n marks
+    holds-kept = rw (keeps .marked) (kept-held hyps fs t n journal used (replicate 4096 0) begin)
+
+    ready : (links : List ℕ) → links ≡ linkedIn t n (replicate 24576 0) → Ready t links marks n
+    unfolding tableRows
+    ready links e =
+        subst (λ (l : List ℕ). Ready t l marks n) (sym e)
+        (linked-ready t (replicate 24576 0) marks n few wide (rw length-replicate (omega arith))
+        (let long = holds-kept .marks-are .long in let h = few in omega arith)
+        (bottoms-below hyps fs t n (prepared .count) (prepared .table)))
+
+    pub grow-roomy : (links : List ℕ) (limit : ℕ) → links ≡ linkedIn t n (replicate 24576 0) → recordBytes * n ≤ length journal
+        → Roomy t links n marks journal kept limit
+    unfolding keptOf
+    grow-roomy links limit e long =
+        subst (λ (k : ℕ). Roomy t links n marks journal k limit) (sym kept-is)
+        (room hyps fs t n (keptOf hyps fs journal used) marks holds-kept limit links journal (ready links e)
+        (kept-good hyps fs [] (wholeRecords (used / recordBytes) journal)) long)
+
+    module _ (limit : ℕ) (growth : Growth) (marksAfter journalAfter : List ℕ)
+        (grows : Grows t n marks journal kept limit growth marksAfter journalAfter) where
+      holds-all : Held hyps fs (keptOf hyps fs journal used ++ grown hyps fs (keptOf hyps fs journal used) limit) t n marksAfter
+      holds-all =
+          marks-hold hyps fs t n (keptOf hyps fs journal used) marks holds-kept limit journal kept growth marksAfter journalAfter grows
+
+      -- no more records than formulas
+      pub all-few : kept + growth .added ≤ 4096
+      unfolding keptOf tableRows
+      all-few =
+          let done = keptOf hyps fs journal used in
+          let more = grown hyps fs done limit in
+          let row =
+            row-short hyps fs (done ++ more)
+            (good-append hyps fs [] done more (kept-good hyps fs [] (wholeRecords (used / recordBytes) journal))
+            (grown-good hyps fs done limit)) in
+          let size = length-append done more in
+          let count = kept-is in
+          let added = added-is hyps fs t n done marks holds-kept limit journal kept growth marksAfter journalAfter grows in
+          let short = prepared .table .few in
+          omega arith
+
+      number-is : (i : ℕ) → i < asked → getD numbers i 0 ≡ numberIn fs (getD queries i True)
+      number-is i low =
+          sym (getD-take asked numbers i 0 low)
+            ∙ (ap (λ (l : List ℕ). getD l i 0) (prepared .numbers-are)
+            ∙ getD-map (numberIn fs) queries i True 0 (let e = prepared .asked-are in omega arith))
+
+      pub answerable : (answers : List ℕ) → asked ≤ length answers → Answerable numbers asked marksAfter answers
+      unfolding tableRows numbered
+      answerable answers enough =
+          record {
+            listed = prepared .numbers-long;
+            room = enough;
+            marked =
+              λ i low.
+                let is = number-is i low in
+                let inside : i < length queries = let e = prepared .asked-are in omega arith in
+                let below =
+                  numberIn-below fs (getD queries i True) (prepared .listed (getD queries i True) (numbered-mem queries i inside)) in
+                let long = holds-all .marks-are .long in
+                let short = prepared .table .few in
+                omega arith;
+          }
+
+      pub works : (answers answersAfter : List ℕ)
+          → answersAfter ≡ written answers 0 (answeredBytes numbers asked marksAfter (growth .finished))
+          → left
+          (record { code = 0; place = 0; kept = kept; added = growth .added; finished = growth .finished; used = recordBytes * (kept + growth .added) })
+          journalAfter answersAfter
+          ≡ success hyps fs queries (keptOf hyps fs journal used) (grown hyps fs (keptOf hyps fs journal used) limit) journal answers
+      unfolding success
+      works answers answersAfter answers-are =
+          let done = keptOf hyps fs journal used in
+          let more = grown hyps fs done limit in
+          let added = added-is hyps fs t n done marks holds-kept limit journal kept growth marksAfter journalAfter grows in
+          let ends = finished-is hyps fs t n done marks holds-kept limit journal kept growth marksAfter journalAfter grows in
+          let bytes = journal-is hyps fs t n done marks holds-kept limit journal kept growth marksAfter journalAfter grows in
+          let said =
+            ap (λ (k : ℕ). answeredBytes numbers k marksAfter (growth .finished)) (sym (prepared .asked-are))
+              ∙ answered hyps fs (done ++ more) t n marksAfter holds-all queries numbers (growth .finished) (prepared .listed)
+              (subst (λ (k : ℕ). take k numbers ≡ map (numberIn fs) queries) (sym (prepared .asked-are)) (prepared .numbers-are)) ends in
+          λ i. record {
+            report =
+              record {
+                code = 0;
+                place = 0;
+                kept = kept-is i;
+                added = added i;
+                finished = ends i;
+                used = recordBytes * (kept-is i + added i);
+              };
+            journal = (bytes ∙ ap (λ (k : ℕ). written journal (recordBytes * k) (spelledAll more)) kept-is) i;
+            answers = (answers-are ∙ ap (written answers 0) said) i;
+          }
+

@@ -1,0 +1,42 @@
+-- What a run works on, and what it leaves.
+use Prim.Native.Nat.{ℕ, _*_, _≤_}
+use mathlib.Core.Path.{_≡_}
+use mathlib.Core.Bool.{true}
+use mathlib.Core.List.{List, map, List·Memᴰ}
+use lib.ListN.{length, take}
+use Rattle.infon.specs.declared.Report.{Report}
+use Rattle.infon.specs.Formula.{Formula}
+use Rattle.infon.specs.Listing.{isListed}
+use Rattle.infon.specs.Journal.{recordBytes, keptOf, grown}
+use Rattle.infon.specs.Run.{Outcome, success}
+use Rattle.table.specs.Table.{numberIn, Tabled}
+
+-- The table holds a list of n formulas with its hypotheses, and the numbers of the queries stand in front of their row.
+pub record Prepared (hyps fs queries : List Formula) (t : List ℕ) (n : ℕ) (numbers : List ℕ) (asked : ℕ) : Type 0 where
+  pub table : Tabled hyps fs t
+  pub count : length fs ≡ n
+  pub asked-are : length queries ≡ asked
+  pub listed : (x : Formula) → List·Memᴰ x queries → isListed x fs ≡ true
+  pub numbers-long : asked ≤ length numbers
+  pub numbers-are : take asked numbers ≡ map (numberIn fs) queries
+
+-- Some list is prepared so, and codes 6 to 8 do not apply.
+pub record Workable (t : List ℕ) (n : ℕ) (numbers : List ℕ) (asked : ℕ) (journal : List ℕ) (used : ℕ) (answers : List ℕ) : Type 0 where
+  pub hyps : List Formula
+  pub fs : List Formula
+  pub queries : List Formula
+  pub prepared : Prepared hyps fs queries t n numbers asked
+  pub room : recordBytes * n ≤ length journal
+  pub inside : used ≤ length journal
+  pub enough : asked ≤ length answers
+
+-- what a call leaves, as one value
+abbrev pub left : Report → List ℕ → List ℕ → Outcome
+left report journal answers = record { report = report; journal = journal; answers = answers }
+
+-- What is left is what the paper says, for whatever list is prepared so.
+abbrev pub Works : List ℕ → ℕ → List ℕ → ℕ → List ℕ → ℕ → ℕ → List ℕ → Report → List ℕ → List ℕ → Type 0
+Works t n numbers asked journal used limit answers report journalAfter answersAfter =
+    (hyps fs queries : List Formula) → Prepared hyps fs queries t n numbers asked
+      → left report journalAfter answersAfter
+      ≡ success hyps fs queries (keptOf hyps fs journal used) (grown hyps fs (keptOf hyps fs journal used) limit) journal answers
