@@ -47,18 +47,18 @@ module _ (hyps fs : List Formula) (done : List Record) (t : List ℕ) (n : ℕ) 
   on-record x listed =
       someOf-same (λ (r : Record). eqb (numberIn fs x) (r .formula)) (λ (r : Record). same x (numbered fs (r .formula))) done
       (λ r m.
-        let below : r .formula < length fs =
-          subst (λ (k : ℕ). r .formula < k) (sym (held .count)) (held .below (r .formula) (by-recorded r done m)) in
-        let number = numberIn-numbered fs (held .table .once) (r .formula) below in
-        sym
-        (same-numbers fs x (numbered fs (r .formula)) listed (numbered-listed fs (r .formula) below)
-          ∙ ap (eqb (numberIn fs x)) number))
+      let below : r .formula < length fs =
+      subst (λ (k : ℕ). r .formula < k) (sym (held .count)) (held .below (r .formula) (by-recorded r done m)) in
+      let number = numberIn-numbered fs (held .table .once) (r .formula) below in
+      sym
+      (same-numbers fs x (numbered fs (r .formula)) listed (numbered-listed fs (r .formula) below)
+      ∙ ap (eqb (numberIn fs x)) number))
 
   marked-on-record : (x : Formula) → isListed x fs ≡ true → eqb (getD marks (numberIn fs x) 0) 1 ≡ isOnRecord fs done x
   marked-on-record x listed =
       ap (λ (k : ℕ). eqb k 1)
       (held .marks-are .marked (numberIn fs x) (subst (λ (k : ℕ). numberIn fs x < k) (held .count) (numberIn-below fs x listed)))
-        ∙ (flag-is (isRecorded (numberIn fs x) done) ∙ on-record x listed)
+      ∙ (flag-is (isRecorded (numberIn fs x) done) ∙ on-record x listed)
 
   -- the answers by marks, for queries given by their numbers
   pub answered : (queries : List Formula) (numbers : List ℕ) (finished : Bool)
@@ -68,8 +68,8 @@ module _ (hyps fs : List Formula) (done : List Record) (t : List ℕ) (n : ℕ) 
   unfolding answeredBytes answersOf answerAt
   answered queries numbers finished listed are ends =
       ap (map (answerAt marks finished)) are
-        ∙ (map-map (answerAt marks finished) (numberIn fs) queries
-        ∙ (map-same (λ (x : Formula). answerAt marks finished (numberIn fs x))
-        (λ (x : Formula). answerByte (answerOf (isOnRecord fs done x) (isFinished hyps fs done))) queries
-        (λ x m. ap₂ (λ (b : Bool) (e : Bool). answerByte (answerOf b e)) (marked-on-record x (listed x m)) ends)
-        ∙ sym (map-map answerByte (λ (x : Formula). answerOf (isOnRecord fs done x) (isFinished hyps fs done)) queries)))
+      ∙ (map-map (answerAt marks finished) (numberIn fs) queries
+      ∙ (map-same (λ (x : Formula). answerAt marks finished (numberIn fs x))
+      (λ (x : Formula). answerByte (answerOf (isOnRecord fs done x) (isFinished hyps fs done))) queries
+      (λ x m. ap₂ (λ (b : Bool) (e : Bool). answerByte (answerOf b e)) (marked-on-record x (listed x m)) ends)
+      ∙ sym (map-map answerByte (λ (x : Formula). answerOf (isOnRecord fs done x) (isFinished hyps fs done)) queries)))

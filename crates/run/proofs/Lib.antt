@@ -1,3 +1,4 @@
 pub mod Answering
 pub mod Outcomes
 pub mod Working
+pub mod Proceeding

@@ -65,10 +65,10 @@ module _ (file journal : List ℕ) (used limit : ℕ) (answers : List ℕ) where
   unfolding kept added keptOf recordBytes
   room fits =
       let all =
-        row-short (hypothesesOf (entriesOf file)) (listOf (entriesOf file)) (kept ++ added)
-        (good-append (hypothesesOf (entriesOf file)) (listOf (entriesOf file)) [] kept added
-        (kept-good (hypothesesOf (entriesOf file)) (listOf (entriesOf file)) [] (wholeRecords (used / 9) journal))
-        (grown-good (hypothesesOf (entriesOf file)) (listOf (entriesOf file)) kept limit)) in
+      row-short (hypothesesOf (entriesOf file)) (listOf (entriesOf file)) (kept ++ added)
+      (good-append (hypothesesOf (entriesOf file)) (listOf (entriesOf file)) [] kept added
+      (kept-good (hypothesesOf (entriesOf file)) (listOf (entriesOf file)) [] (wholeRecords (used / 9) journal))
+      (grown-good (hypothesesOf (entriesOf file)) (listOf (entriesOf file)) kept limit)) in
       let sum = length-append kept added in
       omega arith
 

@@ -80,9 +80,9 @@ module _ (hyps fs queries : List Formula) (t : List ℕ) (n : ℕ) (numbers : Li
           let done = keptOf hyps fs journal used in
           let more = grown hyps fs done limit in
           let row =
-            row-short hyps fs (done ++ more)
-            (good-append hyps fs [] done more (kept-good hyps fs [] (wholeRecords (used / recordBytes) journal))
-            (grown-good hyps fs done limit)) in
+          row-short hyps fs (done ++ more)
+          (good-append hyps fs [] done more (kept-good hyps fs [] (wholeRecords (used / recordBytes) journal))
+          (grown-good hyps fs done limit)) in
           let size = length-append done more in
           let count = kept-is in
           let added = added-is hyps fs t n done marks holds-kept limit journal kept growth marksAfter journalAfter grows in
@@ -92,8 +92,8 @@ module _ (hyps fs queries : List Formula) (t : List ℕ) (n : ℕ) (numbers : Li
       number-is : (i : ℕ) → i < asked → getD numbers i 0 ≡ numberIn fs (getD queries i True)
       number-is i low =
           sym (getD-take asked numbers i 0 low)
-            ∙ (ap (λ (l : List ℕ). getD l i 0) (prepared .numbers-are)
-            ∙ getD-map (numberIn fs) queries i True 0 (let e = prepared .asked-are in omega arith))
+          ∙ (ap (λ (l : List ℕ). getD l i 0) (prepared .numbers-are)
+          ∙ getD-map (numberIn fs) queries i True 0 (let e = prepared .asked-are in omega arith))
 
       pub answerable : (answers : List ℕ) → asked ≤ length answers → Answerable numbers asked marksAfter answers
       unfolding tableRows numbered
@@ -102,11 +102,11 @@ module _ (hyps fs queries : List Formula) (t : List ℕ) (n : ℕ) (numbers : Li
             listed = prepared .numbers-long;
             room = enough;
             marked =
-              λ i low.
+                λ i low.
                 let is = number-is i low in
                 let inside : i < length queries = let e = prepared .asked-are in omega arith in
                 let below =
-                  numberIn-below fs (getD queries i True) (prepared .listed (getD queries i True) (numbered-mem queries i inside)) in
+                numberIn-below fs (getD queries i True) (prepared .listed (getD queries i True) (numbered-mem queries i inside)) in
                 let long = holds-all .marks-are .long in
                 let short = prepared .table .few in
                 omega arith;
@@ -126,20 +126,19 @@ module _ (hyps fs queries : List Formula) (t : List ℕ) (n : ℕ) (numbers : Li
           let ends = finished-is hyps fs t n done marks holds-kept limit journal kept growth marksAfter journalAfter grows in
           let bytes = journal-is hyps fs t n done marks holds-kept limit journal kept growth marksAfter journalAfter grows in
           let said =
-            ap (λ (k : ℕ). answeredBytes numbers k marksAfter (growth .finished)) (sym (prepared .asked-are))
-              ∙ answered hyps fs (done ++ more) t n marksAfter holds-all queries numbers (growth .finished) (prepared .listed)
-              (subst (λ (k : ℕ). take k numbers ≡ map (numberIn fs) queries) (sym (prepared .asked-are)) (prepared .numbers-are)) ends in
+          ap (λ (k : ℕ). answeredBytes numbers k marksAfter (growth .finished)) (sym (prepared .asked-are))
+          ∙ answered hyps fs (done ++ more) t n marksAfter holds-all queries numbers (growth .finished) (prepared .listed)
+          (subst (λ (k : ℕ). take k numbers ≡ map (numberIn fs) queries) (sym (prepared .asked-are)) (prepared .numbers-are)) ends in
           λ i. record {
             report =
-              record {
-                code = 0;
-                place = 0;
-                kept = kept-is i;
-                added = added i;
-                finished = ends i;
-                used = recordBytes * (kept-is i + added i);
-              };
+                record {
+                  code = 0;
+                  place = 0;
+                  kept = kept-is i;
+                  added = added i;
+                  finished = ends i;
+                  used = recordBytes * (kept-is i + added i);
+                };
             journal = (bytes ∙ ap (λ (k : ℕ). written journal (recordBytes * k) (spelledAll more)) kept-is) i;
             answers = (answers-are ∙ ap (written answers 0) said) i;
           }
-

@@ -1,14 +1,15 @@
 -- What a run works on, and what it leaves.
 use Prim.Native.Nat.{ℕ, _*_, _≤_}
 use mathlib.Core.Path.{_≡_}
-use mathlib.Core.Bool.{true}
+use mathlib.Core.Bool.{true, false}
 use mathlib.Core.List.{List, map, List·Memᴰ}
 use lib.ListN.{length, take}
 use Rattle.infon.specs.declared.Report.{Report}
 use Rattle.infon.specs.Formula.{Formula}
-use Rattle.infon.specs.Listing.{isListed}
+use Rattle.infon.specs.Policy.{entriesOf, hypothesesOf, queriesOf, passed}
+use Rattle.infon.specs.Listing.{isListed, listOf}
 use Rattle.infon.specs.Journal.{recordBytes, keptOf, grown}
-use Rattle.infon.specs.Run.{Outcome, success}
+use Rattle.infon.specs.Run.{fileVerdict, Outcome, success, run}
 use Rattle.table.specs.Table.{numberIn, Tabled}
 
 -- The table holds a list of n formulas with its hypotheses, and the numbers of the queries stand in front of their row.
@@ -38,5 +39,24 @@ left report journal answers = record { report = report; journal = journal; answe
 abbrev pub Works : List ℕ → ℕ → List ℕ → ℕ → List ℕ → ℕ → ℕ → List ℕ → Report → List ℕ → List ℕ → Type 0
 Works t n numbers asked journal used limit answers report journalAfter answersAfter =
     (hyps fs queries : List Formula) → Prepared hyps fs queries t n numbers asked
-      → left report journalAfter answersAfter
-      ≡ success hyps fs queries (keptOf hyps fs journal used) (grown hyps fs (keptOf hyps fs journal used) limit) journal answers
+    → left report journalAfter answersAfter
+    ≡ success hyps fs queries (keptOf hyps fs journal used) (grown hyps fs (keptOf hyps fs journal used) limit) journal answers
+
+-- "A refusal returns its code and place, kept 0, added 0, not finished, and the used length as it was given."
+unfoldable pub refused : ℕ → ℕ → ℕ → Report
+refused code place used = record { code = code; place = place; kept = 0; added = 0; finished = false; used = used }
+
+-- The file is accepted, and its list and queries are prepared so.
+pub record PreparedFor (file t : List ℕ) (n : ℕ) (numbers : List ℕ) (asked : ℕ) : Type 0 where
+  pub accepted : fileVerdict file ≡ passed
+  pub prepared : Prepared (hypothesesOf (entriesOf file)) (listOf (entriesOf file)) (queriesOf (entriesOf file)) t n numbers asked
+
+-- Some file is.
+pub record Acceptable (t : List ℕ) (n : ℕ) (numbers : List ℕ) (asked : ℕ) : Type 0 where
+  pub file : List ℕ
+  pub for-file : PreparedFor file t n numbers asked
+
+-- What is left is what the paper's run leaves, for whatever file is prepared so.
+abbrev pub Proceeds : List ℕ → ℕ → List ℕ → ℕ → List ℕ → ℕ → ℕ → List ℕ → Report → List ℕ → List ℕ → Type 0
+Proceeds t n numbers asked journal used limit answers report journalAfter answersAfter =
+    (file : List ℕ) → PreparedFor file t n numbers asked → left report journalAfter answersAfter ≡ run file journal used limit answers

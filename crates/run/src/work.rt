@@ -15,9 +15,8 @@ pub fn work(
     answers: &mut [u8],
 ) -> Report
     requires { ⌜ Workable (now table) n (now queries) asked (now journal) used (now answers) ⌝ }
-    ensures {
-        λ r. ⌜ Works (now (table .entry)) n (now (queries .entry)) asked (now (journal .entry)) used limit (now (answers .entry)) r
-            (now (journal .exit)) (now (answers .exit)) ⌝ }
+    ensures { λ r. ⌜ Works (now (table .entry)) n (now (queries .entry)) asked (now (journal .entry)) used limit (now (answers .entry)) r
+        (now (journal .exit)) (now (answers .exit)) ⌝ }
 {
     let mut links = [0u16; 24576];
     links::link(table, n, &mut links);

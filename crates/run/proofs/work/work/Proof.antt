@@ -62,7 +62,7 @@ returns : tie.Need-returns
 unfolding recordBytes
 returns c =
     λ hyps fs queries prepared.
-      works hyps fs queries _ _ _ _ prepared _ _ _ _ (c .before .before .before .before .before .before .before .before .before .before .before .before .before .before .keep .ensures) _ _ _ _ (c .before .before .before .before .before .before .before .before .before .grow .ensures) _ _ (c .before .before .before .answer-all .ensures)
+    works hyps fs queries _ _ _ _ prepared _ _ _ _ (c .before .before .before .before .before .before .before .before .before .before .before .before .before .before .keep .ensures) _ _ _ _ (c .before .before .before .before .before .before .before .before .before .grow .ensures) _ _ (c .before .before .before .answer-all .ensures)
 
 pub work-spec : {M : Type 1} → statement M
 work-spec =
