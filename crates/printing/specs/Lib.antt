@@ -1,0 +1,4 @@
+-- What the programs print and read.
+pub mod Placed
+pub mod Printed
+pub mod Read
