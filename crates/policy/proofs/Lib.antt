@@ -1,0 +1,3 @@
+pub mod Feeds
+pub mod Spots
+pub mod Verdicts

@@ -1,0 +1,3 @@
+pub mod Codes
+pub mod Lining
+pub mod Walking
