@@ -5,9 +5,11 @@ use native.Mathlib.Omega.{arith}
 use mathlib.Core.Path.{_≡_, refl}
 use mathlib.Core.List.{List}
 use lib.ListN.{length}
-use borrow.Author.Tests.{lt-ltb, le-ltb}
+use lib.Dec.{ltb}
+use borrow.Author.Tests.{lt-ltb, le-ltb, ltb-false}
 use Rattle.infon.specs.Policy
 use Rattle.infon.specs.Policy.{entriesOf, passed, refused, when, andThen, mostBytes, code1, code2, code3}
+use Rattle.infon.proofs.Cuts.{andThen-passed, when-passed}
 use Rattle.policy.specs.declared.Verdict.the-variants.{Passed, Refused}
 use Rattle.policy.specs.Codes.{verdictOf}
 
@@ -41,3 +43,13 @@ module _ (file : List ℕ) (short : length file ≤ 32768) where
       → verdictOf (code3 (entriesOf file)) ≡ verdictOf (andThen (code1 file) (andThen (code2 file) (code3 (entriesOf file))))
   unfolding andThen
   check-nodes e = rw (check-short file (andThen (code2 file) (code3 (entriesOf file))) short, e)
+
+-- what a file that passes is known to be
+pub check-passed : (file : List ℕ) → verdictOf (andThen (code1 file) (andThen (code2 file) (code3 (entriesOf file)))) ≡ Passed
+    → (length file ≤ 32768) × ((code2 file ≡ passed) × (code3 (entriesOf file) ≡ passed))
+unfolding mostBytes code1
+check-passed file h =
+    let later = andThen (code2 file) (code3 (entriesOf file)) in
+    let first = andThen-passed (code1 file) later (was-passed (andThen (code1 file) later) h) in
+    let second = andThen-passed (code2 file) (code3 (entriesOf file)) (first .1) in
+    (ltb-false mostBytes (length file) (when-passed (ltb mostBytes (length file)) 1 0 (first .0)), second)
