@@ -2,12 +2,14 @@
 -- how the number goes on into a longer prefix.
 -- Assumes nothing.
 use Prim.Native.Nat.{ℕ, zero, suc, _+_, _*_, _-_, _/_, _%_, _^_, _≤_, _<_}
+use native.Mathlib.Nat.{pow-suc, le-trans}
 use native.Mathlib.Omega.{arith}
 use mathlib.Core.Path.{_≡_, refl, sym, _∙_, ap, ap₂, subst}
 use mathlib.Core.Bool.{Bool, true, false, cond, _&&_}
 use mathlib.Core.List.{List, [], _∷_, _++_, map, append-nil}
 use lib.ListN.{length, getD, length-append, length-map, List·getD-map}
 use lib.Dec.{eqb}
+use lib.Pow.{pow-mono}
 use Rattle.infon.specs.Formula.{Told, said, put, Quotation, Formula}
 use Rattle.infon.specs.Listing.{Prefix, wrap, weakerTold, inside, insideEach, weakerPrefixes, weakened}
 use Rattle.table.specs.Table.{putBit, putMask, allPut}
@@ -204,3 +206,20 @@ same-prefix (q ∷ v) (r ∷ w) e h =
     let tails = same-prefix v w rest (both .1) in
     let who : q .principal ≡ r .principal = ap (λ (p : Quotation). p .principal) first in
     λ i. record { told = both .0 i; principal = who i } ∷ tails i
+
+-- at most two to the number of places
+branched-most : (told : Told) (n k : ℕ) → n ≤ 2 ^ k → branches (isSaid told) n ≤ 2 ^ suc k
+unfolding isSaid branches
+branched-most said n k h = rw (pow-suc 2 k) (omega arith)
+branched-most put n k h = rw (pow-suc 2 k) (omega arith)
+
+ways-most : (w : Prefix) → waysTo w ≤ 2 ^ length w
+unfolding waysTo
+ways-most [] = omega arith
+ways-most (q ∷ outer) = branched-most (q .told) (waysTo outer) (length outer) (ways-most outer)
+
+pub ways-bound : (w : Prefix) → length w ≤ 4 → waysTo w ≤ 16
+ways-bound w h = le-trans (ways-most w) (pow-mono h)
+
+pub mask-bound : (w : Prefix) → length w ≤ 4 → putMask w < 16
+mask-bound w h = le-trans (mask-below w) (pow-mono h)
