@@ -1,0 +1,5 @@
+pub mod Asked
+pub mod Keys
+pub mod Enter
+pub mod Search
+pub mod Nodewise
