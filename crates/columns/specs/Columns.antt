@@ -56,6 +56,17 @@ unfoldable pub withColumn : ℕ → (ℕ → ℕ) → ℕ → List ℕ → List 
 withColumn from f zero table = table
 withColumn from f (suc n) table = set (withColumn from f n table) (from + n) (f n)
 
+unfoldable pub nothing : ℕ → ℕ
+nothing i = 0
+
+-- the table with all its columns set at the first n formulas, no hypothesis marked
+unfoldable pub filled : List ℕ → List ℕ → List ℕ → List ℕ → ℕ → List ℕ → List ℕ
+filled t cand keys owners n table =
+    withColumn 20480 nothing n
+    (withColumn 16384 (bottomColumn t cand owners) n
+    (withColumn 12288 (rightColumn t cand owners) n
+    (withColumn 8192 (leftColumn t cand owners) n (withColumn 4096 (putColumn keys) n (withColumn 0 (kindColumn t owners) n table)))))
+
 -- form m of node b, of some file whose node table this is
 abbrev pub IsForm : List ℕ → ℕ → ℕ → Type 0
 IsForm t b m = (file : List ℕ) × (NodesHeld file t × ((b < countNodes (nodesOf file)) × (m < waysTo (nodeAt (nodesOf file) b .pre))))

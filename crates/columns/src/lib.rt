@@ -3,7 +3,7 @@
 ghost use mathlib.Core.Path.{_≡_};
 ghost use Prim.Native.Nat.{_*_, _<_, _≤_};
 ghost use lib.ListN.{length};
-ghost use Rattle.columns.specs.Columns.{stride, inwardKind, numberAt, kindColumn, putColumn, leftColumn, rightColumn, bottomColumn, withColumn, IsForm, Owner, Owners, Room};
+ghost use Rattle.columns.specs.Columns.{stride, inwardKind, numberAt, kindColumn, putColumn, leftColumn, rightColumn, bottomColumn, withColumn, nothing, filled, IsForm, Owner, Owners, Room};
 
 // How many forms a node has at most, two to the number of places; and how many rows a column of the formula table has.
 pub const WAYS: usize = 16;
@@ -16,6 +16,8 @@ const LEFTS: usize = 8192;
 const RIGHTS: usize = 12288;
 
 const BOTTOMS: usize = 16384;
+
+const HYPOTHESES: usize = 20480;
 
 // Where the node table's column begins that tells the number behind a node's last node.
 const END: usize = 3072;
@@ -89,7 +91,7 @@ fn bottom_of(nodes: &[u16], cand: &[u16], owners: &[u32], i: usize) -> u16
 }
 
 // Column 0, the kind.
-pub fn fill_kinds(nodes: &[u16], owners: &[u32], n: usize, table: &mut [u16])
+fn fill_kinds(nodes: &[u16], owners: &[u32], n: usize, table: &mut [u16])
     requires { ⌜ Owners (now nodes) (now owners) n × (6 * 4096 ≤ length (now table)) ⌝ }
     ensures { λ _. ⌜ now (table .exit) ≡ withColumn 0 (kindColumn (now (nodes .entry)) (now (owners .entry))) n (now (table .entry)) ⌝ }
 {
@@ -103,7 +105,7 @@ pub fn fill_kinds(nodes: &[u16], owners: &[u32], n: usize, table: &mut [u16])
 }
 
 // Column 1, the put places.
-pub fn fill_puts(keys: &[u32], n: usize, table: &mut [u16])
+fn fill_puts(keys: &[u32], n: usize, table: &mut [u16])
     requires { ⌜ (n ≤ length (now keys)) × ((n ≤ 4096) × (6 * 4096 ≤ length (now table))) ⌝ }
     ensures { λ _. ⌜ now (table .exit) ≡ withColumn 4096 (putColumn (now (keys .entry))) n (now (table .entry)) ⌝ }
 {
@@ -116,7 +118,7 @@ pub fn fill_puts(keys: &[u32], n: usize, table: &mut [u16])
 }
 
 // Column 2, the number of the left part.
-pub fn fill_lefts(nodes: &[u16], cand: &[u16], owners: &[u32], n: usize, table: &mut [u16])
+fn fill_lefts(nodes: &[u16], cand: &[u16], owners: &[u32], n: usize, table: &mut [u16])
     requires { ⌜ Room (now nodes) (now cand) (now owners) (now table) n ⌝ }
     ensures { λ _. ⌜ now (table .exit) ≡ withColumn 8192 (leftColumn (now (nodes .entry)) (now (cand .entry)) (now (owners .entry))) n (now (table .entry)) ⌝ }
 {
@@ -129,7 +131,7 @@ pub fn fill_lefts(nodes: &[u16], cand: &[u16], owners: &[u32], n: usize, table: 
 }
 
 // Column 3, the number of the right part.
-pub fn fill_rights(nodes: &[u16], cand: &[u16], owners: &[u32], n: usize, table: &mut [u16])
+fn fill_rights(nodes: &[u16], cand: &[u16], owners: &[u32], n: usize, table: &mut [u16])
     requires { ⌜ Room (now nodes) (now cand) (now owners) (now table) n ⌝ }
     ensures { λ _. ⌜ now (table .exit) ≡ withColumn 12288 (rightColumn (now (nodes .entry)) (now (cand .entry)) (now (owners .entry))) n (now (table .entry)) ⌝ }
 {
@@ -142,7 +144,7 @@ pub fn fill_rights(nodes: &[u16], cand: &[u16], owners: &[u32], n: usize, table:
 }
 
 // Column 4, the number of the form with put at every place.
-pub fn fill_bottoms(nodes: &[u16], cand: &[u16], owners: &[u32], n: usize, table: &mut [u16])
+fn fill_bottoms(nodes: &[u16], cand: &[u16], owners: &[u32], n: usize, table: &mut [u16])
     requires { ⌜ Room (now nodes) (now cand) (now owners) (now table) n ⌝ }
     ensures { λ _. ⌜ now (table .exit) ≡ withColumn 16384 (bottomColumn (now (nodes .entry)) (now (cand .entry)) (now (owners .entry))) n (now (table .entry)) ⌝ }
 {
@@ -152,4 +154,36 @@ pub fn fill_bottoms(nodes: &[u16], cand: &[u16], owners: &[u32], n: usize, table
         table[BOTTOMS + i] = bottom;
         i += 1;
     }
+}
+
+// Column 5, hypothesis: none is marked yet.
+fn fill_zeros(n: usize, table: &mut [u16])
+    requires { ⌜ (n ≤ 4096) × (6 * 4096 ≤ length (now table)) ⌝ }
+    ensures { λ _. ⌜ now (table .exit) ≡ withColumn 20480 nothing n (now (table .entry)) ⌝ }
+{
+    let mut i = 0;
+    while i < n {
+        table[HYPOTHESES + i] = 0;
+        i += 1;
+    }
+}
+
+// All columns at the first n formulas, none of them marked as a hypothesis.
+pub fn fill_columns(
+    nodes: &[u16],
+    cand: &[u16],
+    keys: &[u32],
+    owners: &[u32],
+    n: usize,
+    table: &mut [u16],
+)
+    requires { ⌜ Room (now nodes) (now cand) (now owners) (now table) n × (n ≤ length (now keys)) ⌝ }
+    ensures { λ _. ⌜ now (table .exit) ≡ filled (now (nodes .entry)) (now (cand .entry)) (now (keys .entry)) (now (owners .entry)) n (now (table .entry)) ⌝ }
+{
+    fill_kinds(nodes, owners, n, table);
+    fill_puts(keys, n, table);
+    fill_lefts(nodes, cand, owners, n, table);
+    fill_rights(nodes, cand, owners, n, table);
+    fill_bottoms(nodes, cand, owners, n, table);
+    fill_zeros(n, table);
 }

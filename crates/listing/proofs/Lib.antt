@@ -3,3 +3,4 @@ pub mod Keys
 pub mod Enter
 pub mod Search
 pub mod Nodewise
+pub mod Cells

@@ -33,13 +33,16 @@ unfolding kindOf
 told-kind said p x = omega arith
 told-kind put p x = omega arith
 
+pub quoted-high : (q : Quotation) (x : Formula) → 4 ≤ kindOf (quoted q x)
+quoted-high q x = told-kind (q .told) (q .principal) x
+
 pub base-kind : (w : Formula) → kindOf w < 4 → isBase w ≡ true
 unfolding kindOf isBase
 base-kind True h = refl
 base-kind (name a) h = refl
 base-kind (and x y) h = refl
 base-kind (implies x y) h = refl
-base-kind (quoted q x) h = absurd (let more = told-kind (q .told) (q .principal) x in omega arith)
+base-kind (quoted q x) h = absurd (let more = quoted-high q x in omega arith)
 
 pub quoted-kind : (w : Formula) → 4 ≤ kindOf w → isBase w ≡ false
 unfolding kindOf isBase
@@ -103,7 +106,7 @@ module _ (row : List Node) (i : ℕ) (h : i < countNodes row) where
       record { left = x; right = y; whole = inl e; left-node = and-left row i h x y e; right-node = and-right row i h x y e }
   parts-by (implies x y) e low high =
       record { left = x; right = y; whole = inr e; left-node = implies-left row i h x y e; right-node = implies-right row i h x y e }
-  parts-by (quoted q x) e low high = absurd (let more = told-kind (q .told) (q .principal) x in omega arith)
+  parts-by (quoted q x) e low high = absurd (let more = quoted-high q x in omega arith)
 
   pub parts-of : 2 ≤ kindOf (nodeAt row i .what) → kindOf (nodeAt row i .what) < 4 → Parts row i
   parts-of = parts-by (nodeAt row i .what) refl
