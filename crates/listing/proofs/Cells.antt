@@ -62,7 +62,10 @@ module _ (file t : List ℕ) (held : NodesHeld file t) (fs : List Formula) (cand
   abbrev row : List Node
   row = nodesOf file
 
-  number-down : (k j m : ℕ) → k ≡ 1024 - j → j < countNodes row → m < waysTo (nodeAt row j .pre) → numberFrom t cand k j m ≡ numberIn fs (formAt row j m)
+  abbrev Down : ℕ → ℕ → ℕ → Type 0
+  Down k j m = (numberFrom t cand k j m ≡ numberIn fs (formAt row j m)) × (isListed (formAt row j m) fs ≡ true)
+
+  number-down : (k j m : ℕ) → k ≡ 1024 - j → j < countNodes row → m < waysTo (nodeAt row j .pre) → Down k j m
   unfolding numberFrom
   number-down zero j m e below less = absurd (omega (arith, count-few file t held))
   number-down (suc k) j m e below less =
@@ -70,21 +73,27 @@ module _ (file t : List ℕ) (held : NodesHeld file t) (fs : List Formula) (cand
       ⊎-elim
       (λ (low : ltb (getD t j 0) 4 ≡ true).
       let base = base-kind (nodeAt row j .what) (subst (λ (n : ℕ). n < 4) kind (ltb-true (getD t j 0) 4 low)) in
-      rw low (placed j m (record { below = below; base = base; less = less }) .number))
+      let here = placed j m (record { below = below; base = base; less = less }) in
+      rw low (here .number, here .listed))
       (λ (high : ltb (getD t j 0) 4 ≡ false).
       let quoting = kind-quoted (nodeAt row j .what) (subst (λ (n : ℕ). 4 ≤ n) kind (ltb-false (getD t j 0) 4 high)) in
       let q = quoting .0 in
       let x = quoting .1 .0 in
       let what = quoting .1 .1 in
       let step : inwardKind (getD t j 0) m ≡ inwards (q .told) m = ap (λ (n : ℕ). inwardKind n m) (kind ∙ ap kindOf what) ∙ kind-inward q x m in
-      rw (high, step)
-      (number-down k (suc j) (inwards (q .told) m) (omega arith) (inside-below row j m below q x what) (inside-ways row j m below q x what less)
-      ∙ ap (numberIn fs) (inside-form row j m below q x what)))
+      let further =
+      number-down k (suc j) (inwards (q .told) m) (omega arith) (inside-below row j m below q x what) (inside-ways row j m below q x what less) in
+      let same = inside-form row j m below q x what in
+      rw (high, step) (further .0 ∙ ap (numberIn fs) same, subst (λ (z : Formula). isListed z fs ≡ true) same (further .1)))
       (decided (ltb (getD t j 0) 4))
 
-  pub number-form : (j m : ℕ) → j < countNodes row → m < waysTo (nodeAt row j .pre) → numberAt t cand j m ≡ numberIn fs (formAt row j m)
-  unfolding numberAt
-  number-form j m below less = number-down (1024 - j) j m refl below less
+  module _ (j m : ℕ) (below : j < countNodes row) (less : m < waysTo (nodeAt row j .pre)) where
+    pub number-form : numberAt t cand j m ≡ numberIn fs (formAt row j m)
+    unfolding numberAt
+    number-form = number-down (1024 - j) j m refl below less .0
+
+    pub form-listed : isListed (formAt row j m) fs ≡ true
+    form-listed = number-down (1024 - j) j m refl below less .1
 
   -- One formula.
   module _ (keys owners : List ℕ) (i : ℕ) (o : Owned row fs keys owners i) where

@@ -4,3 +4,5 @@ pub mod Enter
 pub mod Search
 pub mod Nodewise
 pub mod Cells
+pub mod Letters
+pub mod Marks

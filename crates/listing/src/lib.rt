@@ -10,13 +10,19 @@ ghost use lib.Dec.{ltb};
 ghost use Rattle.nodes.specs.Nodes.{countNodes, nodesOf};
 ghost use Rattle.prefix.specs.Held.{NodesHeld};
 ghost use Rattle.listing.specs.Forms.{listedTo, placeIn, Entered, Ready, FormsEntered};
+ghost use Rattle.listing.specs.Lines.{LinesReady, markedBy, askedBy, askedIn, Clear, HypothesesMarked, QueriesNumbered};
 ghost use Rattle.listing.specs.Whole.{Worked, NodeReady, NodesListed};
 
 // "L is over 4,096" is code 5.
 const MOST: usize = 4096;
 
-// Where the node table's column begins that tells the start of a node's line.
+// Where the node table's columns begin that tell the number behind a node's last node and the start of its line.
+const END: usize = 3072;
+
 const LINE: usize = 5120;
+
+// Where the formula table's column of hypotheses begins.
+const HYPOTHESES: usize = 20480;
 
 // Where a formula with this key stands among the first n, n where it is new.
 fn find(keys: &[u32], n: usize, key: u32) -> usize
@@ -124,4 +130,65 @@ fn list_nodes(
         i += 1;
     }
     Counted::Formulas(n)
+}
+
+// A formula is marked by a line `H`, and otherwise as it was.
+fn mark(letter: u8, old: u16) -> u16
+    ensures { λ r. ⌜ r ≡ markedBy letter old ⌝ }
+{
+    if letter == b'H' {
+        return 1;
+    }
+    old
+}
+
+// Marks the formulas of the `H` lines in the table's column of hypotheses.
+fn fill_hypotheses(file: &[u8], nodes: &[u16], count: usize, cand: &[u16], table: &mut [u16])
+    requires { ⌜ LinesReady (now file) (now nodes) count (now cand) × Clear (now file) (now table) ⌝ }
+    ensures { λ _. ⌜ HypothesesMarked (now (file .entry)) (now (table .entry)) (now (table .exit)) ⌝ }
+{
+    let mut r = 0;
+    while r < count {
+        let number = columns::number_at(nodes, cand, r, 0) as usize;
+        let line = nodes[LINE + r] as usize;
+        let letter = file[line];
+        let old = table[HYPOTHESES + number];
+        let new = mark(letter, old);
+        table[HYPOTHESES + number] = new;
+        r = nodes[END + r] as usize;
+    }
+}
+
+// A line `Q` puts its formula's number behind those of the earlier ones; how many there are then.
+fn ask(letter: u8, number: u16, queries: &mut [u16], q: usize) -> usize
+    requires { ⌜ q < length (now queries) ⌝ }
+    ensures { λ r. ⌜ (r ≡ askedBy letter q) × (now (queries .exit) ≡ askedIn letter number q (now (queries .entry))) ⌝ }
+{
+    if letter == b'Q' {
+        queries[q] = number;
+        return q + 1;
+    }
+    q
+}
+
+// Writes the numbers of the queries in file order; how many there are.
+fn fill_queries(
+    file: &[u8],
+    nodes: &[u16],
+    count: usize,
+    cand: &[u16],
+    queries: &mut [u16],
+) -> usize
+    requires { ⌜ LinesReady (now file) (now nodes) count (now cand) × (1024 ≤ length (now queries)) ⌝ }
+    ensures { λ r. ⌜ QueriesNumbered (now (file .entry)) (now (queries .entry)) (now (queries .exit)) r ⌝ }
+{
+    let mut q = 0;
+    let mut r = 0;
+    while r < count {
+        let number = columns::number_at(nodes, cand, r, 0);
+        let line = nodes[LINE + r] as usize;
+        q = ask(file[line], number, queries, q);
+        r = nodes[END + r] as usize;
+    }
+    q
 }
