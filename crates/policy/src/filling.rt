@@ -44,7 +44,7 @@ fn kind_number(node: Parsed) -> usize
             said,
             start: _,
             end: _,
-        } => { if said { 4 } else { 5 } }
+        } => { if said { SAID } else { PUT } }
         Parsed::Bad => TRUE,
     }
 }
