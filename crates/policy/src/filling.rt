@@ -1,5 +1,9 @@
 // The node table of a file that passed codes 1 to 3, filled in three ways through its nodes: from the file's bytes, then the ends
 // from the last node to the first, then what stands above from the first to the last.
+use super::table::ABOVE;
+use super::table::DEPTH;
+use super::table::END;
+use super::table::KIND;
 use super::table::cell;
 use super::table::put_above;
 use super::table::put_spot;
@@ -14,21 +18,34 @@ ghost use Rattle.infon.specs.Policy.{entriesOf, passed, code2, code3};
 ghost use Rattle.nodes.specs.Nodes.{nodeCell};
 ghost use Rattle.policy.specs.Filling.{cellAt, tableSize, kindNumber, firstCell, endedCell, endFrom, EndReads, handedDown, Begun, Holding, Passes};
 
-// A node's kind as the table has it.
+// the kinds
+const TRUE: usize = 0;
+
+const NAME: usize = 1;
+
+const AND: usize = 2;
+
+const IMPLIES: usize = 3;
+
+const SAID: usize = 4;
+
+const PUT: usize = 5;
+
+// A node's kind as the table has it. (`Bad` is never met where a node begins.)
 fn kind_number(node: Parsed) -> usize
     ensures { λ r. ⌜ r ≡ kindNumber node ⌝ }
 {
     match node {
-        Parsed::True => 0,
-        Parsed::Name { end: _ } => 1,
-        Parsed::And => 2,
-        Parsed::Implies => 3,
+        Parsed::True => TRUE,
+        Parsed::Name { end: _ } => NAME,
+        Parsed::And => AND,
+        Parsed::Implies => IMPLIES,
         Parsed::Quoted {
             said,
             start: _,
             end: _,
-        } => { if said { 4 } else { 5 } }
-        Parsed::Bad => 0,
+        } => { if said { SAID } else { PUT } }
+        Parsed::Bad => TRUE,
     }
 }
 
@@ -63,15 +80,15 @@ fn end_from(nodes: &[u16], i: usize) -> usize
     requires { ⌜ EndReads (now nodes) i ⌝ }
     ensures { λ r. ⌜ r ≡ endFrom (now (nodes .entry)) i ⌝ }
 {
-    let kind = cell(nodes, 0, i);
-    if kind < 2 {
+    let kind = cell(nodes, KIND, i);
+    if kind < AND {
         return i + 1;
     }
-    let first = cell(nodes, 3, i + 1);
-    if 3 < kind {
+    let first = cell(nodes, END, i + 1);
+    if IMPLIES < kind {
         return first;
     }
-    cell(nodes, 3, first)
+    cell(nodes, END, first)
 }
 
 // The ends, from the last node to the first.
@@ -83,7 +100,7 @@ pub fn fill_ends(nodes: &mut [u16], count: usize)
     while 0 < i {
         i -= 1;
         let end = end_from(nodes, i);
-        set_cell(nodes, 3, i, end);
+        set_cell(nodes, END, i, end);
     }
 }
 
@@ -95,17 +112,17 @@ fn hand_down(nodes: &mut [u16], i: usize)
     requires { ⌜ cellAt (now nodes) 6 i < 1024 ⌝ }
     ensures { λ _. ⌜ now (nodes .exit) ≡ handedDown (now (nodes .entry)) i ⌝ }
 {
-    let kind = cell(nodes, 0, i);
-    if kind < 2 {
+    let kind = cell(nodes, KIND, i);
+    if kind < AND {
         return;
     }
-    let above = cell(nodes, 4, i);
-    let depth = cell(nodes, 6, i);
-    if 3 < kind {
+    let above = cell(nodes, ABOVE, i);
+    let depth = cell(nodes, DEPTH, i);
+    if IMPLIES < kind {
         put_above(nodes, i + 1, i, depth + 1);
         return;
     }
-    let right = cell(nodes, 3, i + 1);
+    let right = cell(nodes, END, i + 1);
     put_above(nodes, i + 1, above, depth);
     put_above(nodes, right, above, depth);
 }

@@ -8,6 +8,8 @@ use filling::fill_above;
 use filling::fill_ends;
 use filling::fill_spots;
 use lines::first_malformed;
+use table::DEPTH;
+use table::LINE;
 use table::cell;
 use walk::too_many;
 ghost use mathlib.Core.Path.{_≡_};
@@ -17,6 +19,10 @@ ghost use Rattle.infon.specs.Policy.{entriesOf, passed, andThen, code1, code2, 
 ghost use Rattle.policy.specs.Codes.{verdictOf};
 ghost use Rattle.policy.specs.Filling.{tableSize, Filled};
 ghost use Rattle.policy.specs.Tables.{Tabled, IsCode4};
+
+const MOST_BYTES: usize = 32768;
+
+const MOST_DEPTH: usize = 4;
 
 // A code with its place, or none.
 pub enum Verdict {
@@ -28,7 +34,7 @@ pub enum Verdict {
 pub fn check(file: &[u8]) -> Verdict
     ensures { λ r. ⌜ r ≡ verdictOf (andThen (code1 (now (file .entry))) (andThen (code2 (now (file .entry))) (code3 (entriesOf (now (file .entry)))))) ⌝ }
 {
-    if 32768 < file.len() {
+    if MOST_BYTES < file.len() {
         return Verdict::Refused { code: 1, place: 0 };
     }
     let lines = first_malformed(file);
@@ -59,10 +65,10 @@ pub fn deep(nodes: &[u16], count: usize) -> Verdict
 {
     let mut i: usize = 0;
     while i < count {
-        if 4 < cell(nodes, 6, i) {
+        if MOST_DEPTH < cell(nodes, DEPTH, i) {
             return Verdict::Refused {
                 code: 4,
-                place: cell(nodes, 5, i),
+                place: cell(nodes, LINE, i),
             };
         }
         i += 1;

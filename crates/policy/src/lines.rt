@@ -14,7 +14,7 @@ fn line_end(file: &[u8], start: usize) -> usize
 {
     let mut i = start;
     while i < file.len() {
-        if file[i] == 10 {
+        if file[i] == b'\n' {
             return i;
         }
         i += 1;
@@ -26,7 +26,7 @@ fn line_end(file: &[u8], start: usize) -> usize
 fn is_opening(letter: u8, gap: u8) -> bool
     ensures { λ r. ⌜ r ≡ isOpening letter gap ⌝ }
 {
-    if gap != 32 {
+    if gap != b' ' {
         return false;
     }
     if letter == b'H' {

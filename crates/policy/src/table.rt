@@ -4,6 +4,26 @@ ghost use Prim.Native.Nat.{ℕ, _<_};
 ghost use lib.ListN.{length};
 ghost use Rattle.policy.specs.Filling.{cellAt, put, tableSize, spotted, abovePut};
 
+const ROWS: usize = 1024;
+
+// the columns
+pub const KIND: usize = 0;
+
+pub const PLACE: usize = 1;
+
+pub const OWN: usize = 2;
+
+pub const END: usize = 3;
+
+pub const ABOVE: usize = 4;
+
+pub const LINE: usize = 5;
+
+pub const DEPTH: usize = 6;
+
+// stands for no quotation above
+const NONE_ABOVE: usize = 0xFFFF;
+
 fn wide(x: u16) -> usize
     ensures { λ r. ⌜ r ≡ x ⌝ }
 {
@@ -16,7 +36,7 @@ pub fn cell(nodes: &[u16], column: usize, i: usize) -> usize
     requires { ⌜ length (now nodes) ≡ tableSize ⌝ }
     ensures { λ r. ⌜ r ≡ cellAt (now (nodes .entry)) column i ⌝ }
 {
-    let at = column * 1024 + i;
+    let at = column * ROWS + i;
     wide(nodes[at])
 }
 
@@ -27,7 +47,7 @@ pub fn set_cell(nodes: &mut [u16], column: usize, i: usize, value: usize)
     requires { ⌜ length (now nodes) ≡ tableSize ⌝ }
     ensures { λ _. ⌜ now (nodes .exit) ≡ put (now (nodes .entry)) column i value ⌝ }
 {
-    let at = column * 1024 + i;
+    let at = column * ROWS + i;
     nodes[at] = value as u16;
 }
 
@@ -39,13 +59,13 @@ pub fn put_spot(nodes: &mut [u16], i: usize, kind: usize, at: usize, own: usize,
     requires { ⌜ length (now nodes) ≡ tableSize ⌝ }
     ensures { λ _. ⌜ now (nodes .exit) ≡ spotted (now (nodes .entry)) i kind at own line ⌝ }
 {
-    set_cell(nodes, 0, i, kind);
-    set_cell(nodes, 1, i, at);
-    set_cell(nodes, 2, i, own);
-    set_cell(nodes, 3, i, i + 1);
-    set_cell(nodes, 4, i, 0xFFFF);
-    set_cell(nodes, 5, i, line);
-    set_cell(nodes, 6, i, 0);
+    set_cell(nodes, KIND, i, kind);
+    set_cell(nodes, PLACE, i, at);
+    set_cell(nodes, OWN, i, own);
+    set_cell(nodes, END, i, i + 1);
+    set_cell(nodes, ABOVE, i, NONE_ABOVE);
+    set_cell(nodes, LINE, i, line);
+    set_cell(nodes, DEPTH, i, 0);
 }
 
 // The nearest quotation above a node, and how many there are.
@@ -55,6 +75,6 @@ pub fn put_above(nodes: &mut [u16], i: usize, above: usize, depth: usize)
     requires { ⌜ length (now nodes) ≡ tableSize ⌝ }
     ensures { λ _. ⌜ now (nodes .exit) ≡ abovePut (now (nodes .entry)) i above depth ⌝ }
 {
-    set_cell(nodes, 4, i, above);
-    set_cell(nodes, 6, i, depth);
+    set_cell(nodes, ABOVE, i, above);
+    set_cell(nodes, DEPTH, i, depth);
 }

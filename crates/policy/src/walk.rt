@@ -8,6 +8,8 @@ ghost use Rattle.infon.specs.Policy.{entriesOf, passed, code2, code3};
 ghost use Rattle.policy.specs.Codes.{verdictOf};
 ghost use Rattle.policy.specs.Walking.{behindOwn, nextSpot};
 
+const MOST_NODES: usize = 1024;
+
 // Where a node begins, and where its line does.
 pub struct Spot {
     pub at: usize,
@@ -38,7 +40,7 @@ pub fn next_spot(file: &[u8], end: usize, line: usize) -> Spot
     requires { ⌜ end < length (now file) ⌝ }
     ensures { λ r. ⌜ r ≡ nextSpot (now (file .entry)) end line ⌝ }
 {
-    if file[end] == 32 {
+    if file[end] == b' ' {
         Spot { at: end + 1, line }
     } else {
         Spot {
@@ -57,7 +59,7 @@ pub fn too_many(file: &[u8]) -> Verdict
     let mut line: usize = 0;
     let mut count: usize = 0;
     while at < file.len() {
-        if count == 1024 {
+        if count == MOST_NODES {
             return Verdict::Refused {
                 code: 3,
                 place: line,
