@@ -13,11 +13,12 @@ use Rattle.infon.specs.Formula.{Told, said, put, Quotation, Formula, True, name
 use Rattle.infon.specs.Policy.{mostBytes, code1, passed}
 use Rattle.infon.specs.Listing.{Prefix}
 use Rattle.infon.proofs.Rows.{and-true}
+use Rattle.infon.proofs.Readable.{letter-length}
 use Rattle.infon.proofs.Cuts.{when-passed}
 use Rattle.nodes.specs.Nodes.{Node, part, inner, nodeAt, countNodes, ownBytes, nodesOf}
 use Rattle.nodes.proofs.Order.{node-within, and-left, and-right, implies-right, quoted-inner, nodes-positive}
 use Rattle.nodes.proofs.Every.{node-named}
-use Rattle.nodes.proofs.Spelled.{Stands, stands-front, stands-back, stands-take, stands-within, and-spelled, implies-spelled, quoted-spelled, letter-length, node-stands, node-text}
+use Rattle.nodes.proofs.Spelled.{Stands, stands-front, stands-back, stands-take, stands-within, and-spelled, implies-spelled, quoted-spelled, node-stands, node-text}
 use Rattle.prefix.specs.declared.Place.{Place}
 use Rattle.prefix.specs.Places.{used, EachPlace, prefixAt}
 use Rattle.prefix.specs.Held.{NodesHeld}
