@@ -1,18 +1,18 @@
 -- From a form to the base below it, a step each; and columns, a cell each.
 -- Assumes nothing.
-use Prim.Native.Nat.{ℕ, zero, suc, _+_, _*_, _-_, _/_, _%_, _≤_, _<_}
+use Prim.Native.Nat.{ℕ, zero, suc, _+_, _*_, _-_, _≤_, _<_}
 use native.Mathlib.Numerals.{add-one}
 use native.Mathlib.Omega.{arith}
-use mathlib.Core.Path.{_≡_, refl, sym, _∙_, ap, ap₂, subst}
-use mathlib.Core.Bool.{Bool, true, false, cond}
-use mathlib.Core.List.{List, [], _∷_}
+use mathlib.Core.Path.{_≡_, refl, sym, _∙_, ap, subst}
+use mathlib.Core.Bool.{cond}
+use mathlib.Core.List.{List}
 use lib.ListN.{length, getD, set, length-set}
-use lib.Dec.{ltb, eqb}
+use lib.Dec.{ltb}
 use borrow.Author.Tests.{lt-ltb, le-ltb}
 use Rattle.infon.specs.Formula.{Told, said, put, Quotation, Formula, quoted, nodes}
-use Rattle.nodes.specs.Nodes.{nodeAt, countNodes, kindOf, nodesOf}
+use Rattle.nodes.specs.Nodes.{nodeAt, kindOf, nodesOf}
 use Rattle.prefix.specs.Places.{Sized, used, prefixAt, Readable, waysOf}
-use Rattle.prefix.specs.Weaker.{waysTo, inwards, formAt}
+use Rattle.prefix.specs.Weaker.{inwards}
 use Rattle.prefix.specs.Held.{NodesHeld}
 use Rattle.prefix.proofs.Chosen.{ways-bound, ways-positive}
 use Rattle.prefix.proofs.Shown.{kind-cell, end-cell, pre-few, count-few, table-long, readable, prefix-sized, node-ways}

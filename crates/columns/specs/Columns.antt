@@ -1,9 +1,8 @@
 -- The columns of the formula table, worked out of the node table and three tables of numbers: which form each formula was first
 -- listed as (`owners`), its key, and the number of every form (`cand`). Form number m of node b stands at b * 16 + m.
 use Prim.Native.Nat.{ℕ, zero, suc, _+_, _*_, _-_, _/_, _%_, _≤_, _<_}
-use mathlib.Core.Path.{_≡_}
-use mathlib.Core.Bool.{Bool, true, false, cond}
-use mathlib.Core.List.{List, [], _∷_}
+use mathlib.Core.Bool.{cond}
+use mathlib.Core.List.{List}
 use lib.ListN.{length, getD, set}
 use lib.Dec.{ltb, eqb}
 use Rattle.nodes.specs.Nodes.{nodeAt, countNodes, nodesOf}

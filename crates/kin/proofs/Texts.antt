@@ -1,22 +1,19 @@
 -- Where the texts of a file's nodes stand: how long a formula's text is, and where a principal is.
 -- Assumes nothing.
-use Prim.Native.Nat.{ℕ, zero, suc, _+_, _-_, _≤_, _<_}
+use Prim.Native.Nat.{ℕ, suc, _+_, _-_, _≤_, _<_}
 use native.Mathlib.Omega.{arith}
 use mathlib.Core.Path.{_≡_, refl, sym, _∙_, ap, ap₂, subst}
-use mathlib.Core.Bool.{Bool, true, false, cond, _&&_}
+use mathlib.Core.Bool.{true, _&&_}
 use mathlib.Core.List.{List, [], _∷_, _++_, append-assoc}
 use lib.ListN.{length, getD, take, drop, length-append}
-use lib.Dec.{ltb, leb}
-use borrow.Author.Tests.{ltb-false, leb-true}
+use lib.Dec.{leb}
+use borrow.Author.Tests.{leb-true}
 use Rattle.infon.specs.Bytes.{bytes, space, alike, every}
-use Rattle.infon.specs.Formula.{Told, said, put, Quotation, Formula, True, name, and, implies, quoted, letterOf, spelling, nodes, same, isNameByte, isName, isNamed, words, joined}
-use Rattle.infon.specs.Policy.{mostBytes, code1, passed}
-use Rattle.infon.specs.Listing.{Prefix}
+use Rattle.infon.specs.Formula.{Quotation, Formula, True, name, and, implies, quoted, letterOf, spelling, nodes, isNameByte, isName, isNamed, words, joined}
 use Rattle.infon.proofs.Rows.{and-true}
 use Rattle.infon.proofs.Readable.{letter-length}
-use Rattle.infon.proofs.Cuts.{when-passed}
 use Rattle.nodes.specs.Nodes.{Node, part, inner, nodeAt, countNodes, ownBytes, nodesOf}
-use Rattle.nodes.proofs.Order.{node-within, and-left, and-right, implies-right, quoted-inner, nodes-positive}
+use Rattle.nodes.proofs.Order.{node-within, and-right, implies-right, quoted-inner, nodes-positive}
 use Rattle.nodes.proofs.Every.{node-named}
 use Rattle.nodes.proofs.Spelled.{Stands, stands-front, stands-back, stands-take, stands-within, and-spelled, implies-spelled, quoted-spelled, node-stands, node-text}
 use Rattle.prefix.specs.declared.Place.{Place}
@@ -118,10 +115,6 @@ spelling-positive (quoted q x) h = omega (arith, quoted-length q x)
 
 -- The node table of a file.
 module _ (file t : List ℕ) (held : NodesHeld file t) where
-  pub file-small : length file ≤ 32768
-  unfolding code1 mostBytes
-  file-small = ltb-false 32768 (length file) (when-passed (ltb 32768 (length file)) 1 0 (held .small))
-
   module _ (i : ℕ) (h : i < countNodes (nodesOf file)) where
     abbrev x : Formula
     x = nodeAt (nodesOf file) i .what

@@ -12,7 +12,7 @@ use lib.Seq.{drop-cons, getD-take, length-take-le}
 use lib.Dec.{eqb}
 use borrow.Author.Tests.{eq-eqb, ne-eqb}
 use Rattle.infon.specs.Bytes.{alike}
-use Rattle.infon.proofs.Rows.{decided, alike-eq}
+use Rattle.infon.proofs.Rows.{alike-eq}
 use Rattle.prefix.specs.declared.Place.{Place}
 use Rattle.prefix.specs.Places.{EachPlace}
 use Rattle.kin.specs.Kin.{firstFrom, principalText, samePlaces, Quoting}

@@ -1,12 +1,11 @@
 -- Nodes that are akin: the same formula begins there, under the same principals. Their bases have the same weaker forms but for
 -- the kinds of the places.
 use Prim.Native.Nat.{ℕ, zero, suc, _+_, _-_, _≤_, _<_}
-use mathlib.Core.Path.{_≡_}
 use mathlib.Core.Bool.{Bool, true, false, cond, _&&_}
 use mathlib.Core.List.{List, [], _∷_}
 use lib.ListN.{length, getD, take, drop}
 use Rattle.infon.specs.Bytes.{alike}
-use Rattle.infon.specs.Formula.{Quotation, same}
+use Rattle.infon.specs.Formula.{same}
 use Rattle.infon.specs.Listing.{Prefix}
 use Rattle.nodes.specs.Nodes.{Node, nodeAt, countNodes, nodesOf}
 use Rattle.prefix.specs.declared.Place.{Place}

@@ -1,17 +1,16 @@
 -- The nodes of a file ask, one by one, for what its lines ask for: so the list and code 5 can be had node by node.
 -- Assumes nothing.
-use Prim.Native.Nat.{ℕ, zero, suc, _+_, _≤_, _<_}
+use Prim.Native.Nat.{ℕ, zero, suc, _≤_, _<_}
 use native.Mathlib.Omega.{arith}
-use mathlib.Core.Path.{_≡_, refl, sym, _∙_, ap, ap₂, subst}
-use mathlib.Core.Logic.{_⊎_, inl, inr, ⊎-elim}
-use mathlib.Core.Bool.{Bool, true, false, cond, true≢false, false≢true}
+use mathlib.Core.Path.{_≡_, refl, sym, _∙_, ap}
+use mathlib.Core.Bool.{cond}
 use mathlib.Core.List.{List, [], _∷_, _++_, append-assoc, append-nil}
-use lib.ListN.{length, getD, drop}
+use lib.ListN.{length, drop}
 use lib.Dec.{ltb}
 use borrow.Author.Tests.{lt-ltb, le-ltb}
-use Rattle.infon.specs.Formula.{Quotation, Formula, True, name, and, implies, quoted}
+use Rattle.infon.specs.Formula.{Formula, True, name, and, implies, quoted}
 use Rattle.infon.specs.Policy.{Entry, formulaIn, Verdict, passed, refused, when, andThen}
-use Rattle.infon.specs.Listing.{Prefix, weakened, weakenedBases, enlist, listOf, mostListed, code5From, code5}
+use Rattle.infon.specs.Listing.{weakened, weakenedBases, enlist, listOf, mostListed, code5From, code5}
 use Rattle.infon.proofs.Listed.{unskipped, listFrom-enlist, enlist-append, enlist-begins, begins-shorter}
 use Rattle.nodes.specs.Nodes.{Node, root, part, inner, kidsOf, kids, after, nodeAt, roots, countNodes}
 use Rattle.nodes.proofs.Order.{after-none, node-first, node-step}

@@ -1,32 +1,30 @@
 -- The columns worked out of the numbers are the cells that the formula table is to have.
 -- Assumes nothing.
-use Prim.Native.Nat.{ℕ, zero, suc, _+_, _*_, _-_, _/_, _%_, _≤_, _<_}
+use Prim.Native.Nat.{ℕ, zero, suc, _+_, _-_, _/_, _%_, _≤_, _<_}
 use native.Mathlib.Numerals.{add-one}
 use native.Mathlib.Omega.{arith}
 use mathlib.Core.Path.{_≡_, refl, sym, _∙_, ap, ap₂, subst}
 use mathlib.Core.Logic.{_⊎_, inl, inr, ⊎-elim}
-use mathlib.Core.Bool.{Bool, true, false, cond, true≢false, false≢true}
-use mathlib.Core.List.{List, [], _∷_}
-use lib.ListN.{length, getD}
+use mathlib.Core.Bool.{true, false, true≢false, false≢true}
+use mathlib.Core.List.{List, []}
+use lib.ListN.{getD}
 use lib.Dec.{ltb}
-use borrow.Author.Tests.{lt-ltb, le-ltb, ltb-true, ltb-false}
-use Rattle.infon.specs.Formula.{Quotation, Formula, True, name, and, implies, quoted, nodes}
+use borrow.Author.Tests.{ltb-true, ltb-false}
+use Rattle.infon.specs.Formula.{Formula, True, name, and, implies, quoted, nodes}
 use Rattle.infon.specs.Listing.{Prefix, wrap, isListed}
-use Rattle.infon.specs.Rules.{Shape, truth, primitive, conjunction, implication, shapeUnder, shapeOf, prefixUnder, coreOf, numbered}
+use Rattle.infon.specs.Rules.{shapeUnder, shapeOf, prefixUnder, coreOf, numbered}
 use Rattle.infon.proofs.Rows.{decided}
 use Rattle.infon.proofs.Prefixes.{shape-wrap}
 use Rattle.nodes.specs.Nodes.{Node, nodeAt, countNodes, kindOf, nodesOf}
 use Rattle.table.specs.Table.{numberIn, noNumber, putMask, allPut, bottomOf, shapeKind, leftIn, rightIn}
-use Rattle.prefix.specs.Places.{used, prefixAt, waysOf}
 use Rattle.prefix.specs.Weaker.{waysTo, choose, inwards, isBase, formAt}
 use Rattle.prefix.specs.Held.{NodesHeld}
 use Rattle.prefix.proofs.Chosen.{choose-bottom, choose-last, choose-length, ways-positive, mask-bound}
 use Rattle.prefix.proofs.Shown.{kind-cell, count-few, pre-few, node-ways}
 use Rattle.prefix.proofs.Inside.{kind-quoted, quoted-high, base-kind, quoted-kind, inside-below, inside-ways, inside-form, Parts, left-below, right-below, left-form, right-form, left-ways, right-ways}
-use Rattle.kin.specs.Kin.{kinOf}
-use Rattle.columns.specs.Columns.{stride, inwardKind, numberFrom, numberAt, kindColumn, putColumn, leftColumn, rightColumn, bottomColumn, IsForm, IsOwner, Owners}
+use Rattle.columns.specs.Columns.{stride, inwardKind, numberFrom, numberAt, kindColumn, putColumn, leftColumn, rightColumn, bottomColumn, IsForm, IsOwner}
 use Rattle.columns.proofs.Steps.{kind-inward, form-parts, right-number}
-use Rattle.listing.specs.Forms.{keyAt, Form, Owned, Placed, Entered}
+use Rattle.listing.specs.Forms.{keyAt, Form, Owned, Placed}
 use Rattle.listing.proofs.Keys.{wrapped-prefix, wrapped-core}
 use Rattle.listing.proofs.Enter.{form-few}
 

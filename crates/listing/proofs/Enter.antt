@@ -1,10 +1,10 @@
 -- One form more: it is found among the formulas listed, or put behind them, and the tables hold the list again.
 -- Assumes nothing.
-use Prim.Native.Nat.{ℕ, zero, suc, _+_, _*_, _≤_, _<_}
+use Prim.Native.Nat.{ℕ, _+_, _*_, _≤_, _<_}
 use native.Mathlib.Omega.{arith}
 use mathlib.Core.Path.{_≡_, refl, sym, _∙_, ap, ap₂, subst}
 use mathlib.Core.Logic.{_⊎_, inl, inr, ⊎-elim}
-use mathlib.Core.Bool.{Bool, true, false, cond, true≢false, false≢true}
+use mathlib.Core.Bool.{true, false, cond}
 use mathlib.Core.List.{List, [], _∷_, _++_}
 use lib.ListN.{length, getD, set, take, length-append, List·getD-append}
 use lib.Seq.{getD-set-same, getD-set-other, getD-at}
@@ -18,7 +18,7 @@ use Rattle.table.specs.Table.{numberIn}
 use Rattle.table.proofs.Numbers.{numberIn-below}
 use Rattle.table.proofs.Growing.{numberIn-unlisted, numberIn-append, numberIn-last, listed-append, listed-last}
 use Rattle.nodes.specs.Nodes.{Node, nodeAt, countNodes}
-use Rattle.prefix.specs.Weaker.{waysTo, isBase, formAt}
+use Rattle.prefix.specs.Weaker.{formAt}
 use Rattle.prefix.proofs.Chosen.{ways-bound}
 use Rattle.columns.specs.Columns.{stride}
 use Rattle.listing.specs.Forms.{placeIn, keyAt, Form, Owned, Placed, Entered}

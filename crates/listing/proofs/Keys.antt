@@ -1,11 +1,10 @@
 -- Keys: two forms are the same formula exactly if their keys are equal, so a formula is found by its key.
 -- Assumes nothing.
-use Prim.Native.Nat.{ℕ, zero, suc, _+_, _*_, _≤_, _<_}
+use Prim.Native.Nat.{ℕ, suc, _+_, _*_, _≤_, _<_}
 use native.Mathlib.Omega.{arith}
 use mathlib.Core.Path.{_≡_, refl, sym, _∙_, ap, ap₂, subst}
-use mathlib.Core.Logic.{⊎-elim}
-use mathlib.Core.Bool.{Bool, true, false, cond, true≢false, false≢true}
-use mathlib.Core.List.{List, [], _∷_, _++_, append-nil}
+use mathlib.Core.Bool.{Bool, true, cond, false≢true}
+use mathlib.Core.List.{List, [], _∷_, append-nil}
 use lib.ListN.{length, getD, take}
 use lib.Seq.{getD-take, length-take-le}
 use lib.Dec.{eqb}
@@ -18,7 +17,7 @@ use Rattle.infon.proofs.Prefixes.{prefix-wrap, core-wrap}
 use Rattle.table.specs.Table.{numberIn, putMask, allPut}
 use Rattle.table.proofs.Numbers.{same-test}
 use Rattle.nodes.specs.Nodes.{Node, nodeAt, countNodes}
-use Rattle.prefix.specs.Weaker.{waysTo, choose, isBase, formAt}
+use Rattle.prefix.specs.Weaker.{choose, isBase, formAt}
 use Rattle.prefix.proofs.Chosen.{choose-bottom, choose-length, same-prefix, mask-bound}
 use Rattle.kin.specs.Kin.{kinOf}
 use Rattle.kin.proofs.Same.{akin-eq, eq-akin, same-kin, kin-same}

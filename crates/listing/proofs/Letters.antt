@@ -1,20 +1,18 @@
 -- The lines of a file, one by one: what letter each begins with, and how the nodes lead from one to the next.
 -- Assumes nothing.
-use Prim.Native.Nat.{ℕ, zero, suc, _+_, _*_, _-_, _≤_, _<_}
-use native.Mathlib.Nat.{zero-add}
+use Prim.Native.Nat.{ℕ, _+_, _≤_, _<_}
 use native.Mathlib.Omega.{arith}
-use mathlib.Core.Path.{_≡_, refl, sym, _∙_, ap, subst}
-use mathlib.Core.Logic.{_⊎_, inl, inr}
+use mathlib.Core.Path.{_≡_, refl, sym, _∙_, ap}
 use mathlib.Core.Option.{Option, none, some}
-use mathlib.Core.List.{List, [], _∷_, _++_, flatten, append-assoc}
+use mathlib.Core.List.{List, [], _∷_, _++_, flatten}
 use lib.ListN.{length, getD, drop, length-append, length-drop}
 use lib.Seq.{drop-drop, drop-append-seam}
 use Rattle.infon.specs.Bytes.{bytes}
-use Rattle.infon.specs.Formula.{Formula, nodes}
-use Rattle.infon.specs.Policy.{cut, Line, placed, linesOf, Sentence, hypothesis, query, sentenceOf, Entry, withEntry, entriesFrom, entriesOf, formulaIn}
+use Rattle.infon.specs.Formula.{nodes}
+use Rattle.infon.specs.Policy.{cut, placed, linesOf, Sentence, hypothesis, query, sentenceOf, Entry, withEntry, entriesFrom, entriesOf, formulaIn}
 use Rattle.infon.specs.Listing.{Prefix, wrap}
 use Rattle.infon.proofs.Lines.{cut-concat, lineOf, line-read}
-use Rattle.nodes.specs.Nodes.{Node, none-above, root, after, nowhere, nodeAt, roots, countNodes, nodesOf}
+use Rattle.nodes.specs.Nodes.{Node, root, after, nowhere, nodeAt, roots, countNodes, nodesOf}
 use Rattle.nodes.proofs.Order.{after-none, node-first, node-behind, node-within}
 use Rattle.nodes.proofs.Spelled.{Stands, stands-byte}
 use Rattle.prefix.specs.Weaker.{waysTo, choose, formAt}

@@ -6,3 +6,5 @@ pub mod Nodewise
 pub mod Cells
 pub mod Letters
 pub mod Marks
+pub mod Final
+pub mod Single

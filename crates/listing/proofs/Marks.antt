@@ -1,16 +1,16 @@
 -- The lines one by one: hypotheses are marked, queries are numbered.
 -- Assumes nothing.
-use Prim.Native.Nat.{ℕ, zero, suc, _+_, _*_, _-_, _≤_, _<_}
+use Prim.Native.Nat.{ℕ, suc, _+_, _*_, _≤_, _<_}
 use native.Mathlib.Numerals.{add-one}
 use native.Mathlib.Omega.{arith}
-use mathlib.Core.Path.{_≡_, refl, sym, _∙_, ap, ap₂, subst}
+use mathlib.Core.Path.{_≡_, refl, sym, _∙_, ap, subst}
 use mathlib.Core.Logic.{_⊎_, inl, inr, ⊎-elim}
-use mathlib.Core.Bool.{Bool, true, false, cond, _||_, true≢false, false≢true}
+use mathlib.Core.Bool.{Bool, true, false, _||_}
 use mathlib.Core.List.{List, [], _∷_, _++_, map, append-assoc, append-nil}
-use lib.ListN.{length, getD, set, take, drop, length-set, length-append, length-map, length-drop}
-use lib.Seq.{getD-set-same, getD-set-other, set-getD, drop-cons, set-at, length-front}
+use lib.ListN.{length, getD, set, drop, length-set, length-append, length-map, length-drop}
+use lib.Seq.{getD-set-same, getD-set-other, set-getD, drop-cons, set-at}
 use lib.Dec.{eqb}
-use borrow.Author.Tests.{eqb-true, eqb-false, eq-eqb, ne-eqb}
+use borrow.Author.Tests.{eqb-true, eqb-false}
 use Rattle.infon.specs.Bytes.{someOf}
 use Rattle.infon.specs.Formula.{Formula, same, nodes}
 use Rattle.infon.specs.Policy.{Sentence, hypothesis, query, Entry, entriesOf, formulaIn, hypothesesOf, queriesOf}
@@ -19,15 +19,14 @@ use Rattle.infon.specs.Rules.{numbered}
 use Rattle.infon.specs.Run.{written}
 use Rattle.infon.proofs.Rows.{decided}
 use Rattle.infon.proofs.Listed.{numbered-injective}
-use Rattle.nodes.specs.Nodes.{Node, nodeAt, countNodes, nodesOf}
+use Rattle.nodes.specs.Nodes.{nodeAt, countNodes, nodesOf}
 use Rattle.nodes.proofs.Order.{nodes-positive}
 use Rattle.table.specs.Table.{numberIn, flag}
-use Rattle.table.proofs.Numbers.{numberIn-below, numbered-numberIn, numberIn-numbered, same-number}
+use Rattle.table.proofs.Numbers.{numberIn-below, numbered-numberIn, same-number}
 use Rattle.table.proofs.Growing.{listed-last}
-use Rattle.prefix.specs.Weaker.{formAt}
 use Rattle.prefix.proofs.Shown.{count-few, end-cell, line-cell}
 use Rattle.columns.specs.Columns.{numberAt, IsForm}
-use Rattle.listing.specs.Lines.{LinesReady, markedBy, askedBy, askedIn, Clear, HypothesesMarked, queryNumbers, QueriesNumbered}
+use Rattle.listing.specs.Lines.{LinesReady, markedBy, askedBy, askedIn, Clear, HypothesesMarked, QueriesNumbered}
 use Rattle.listing.proofs.Cells.{number-form, form-listed}
 use Rattle.listing.proofs.Letters.{letterByte, LinesAhead, all-ahead, NextLine, next-line, none-ahead, line-form, line-ways}
 

@@ -1,12 +1,12 @@
 -- The list node by node: from one node to the next, and what all nodes come to.
 -- Assumes nothing.
-use Prim.Native.Nat.{ℕ, zero, suc, _+_, _*_, _≤_, _<_}
+use Prim.Native.Nat.{ℕ, suc, _+_, _≤_, _<_}
 use native.Mathlib.Numerals.{add-one}
 use native.Mathlib.Omega.{arith}
-use mathlib.Core.Path.{_≡_, refl, sym, _∙_, ap, ap₂, subst}
+use mathlib.Core.Path.{_≡_, refl, sym, _∙_, ap, subst}
 use mathlib.Core.Logic.{_⊎_, inl, inr, ⊎-elim}
-use mathlib.Core.Bool.{Bool, true, false, cond, true≢false, false≢true}
-use mathlib.Core.List.{List, [], _∷_}
+use mathlib.Core.Bool.{true, false, true≢false}
+use mathlib.Core.List.{List}
 use lib.ListN.{length, getD}
 use lib.Dec.{ltb}
 use borrow.Author.Tests.{ltb-true, ltb-false}
@@ -14,7 +14,7 @@ use Rattle.infon.specs.Formula.{Formula}
 use Rattle.infon.specs.Policy.{entriesOf, Verdict, passed, refused}
 use Rattle.infon.specs.Listing.{weakened, enlist, listOf, mostListed, code5}
 use Rattle.infon.proofs.Rows.{decided}
-use Rattle.nodes.specs.Nodes.{Node, after, nodeAt, roots, countNodes, kindOf, nodesOf}
+use Rattle.nodes.specs.Nodes.{Node, after, nodeAt, roots, countNodes, nodesOf}
 use Rattle.prefix.specs.declared.Prefix.{Prefix}
 use Rattle.prefix.specs.Places.{used, prefixAt, waysOf}
 use Rattle.prefix.specs.Weaker.{waysTo, isBase}
@@ -24,10 +24,8 @@ use Rattle.prefix.proofs.Shown.{kind-cell, line-cell, count-few, pre-few, prefi
 use Rattle.prefix.proofs.Inside.{base-kind, quoted-kind}
 use Rattle.kin.specs.Kin.{kinOf}
 use Rattle.kin.proofs.Same.{kin-most}
-use Rattle.columns.specs.Columns.{stride}
-use Rattle.listing.specs.declared.Counted.{Counted}
 use Rattle.listing.specs.declared.Counted.the-variants.{Formulas, Over}
-use Rattle.listing.specs.Forms.{ownForms, listedTo, Form, Owned, Placed, Entered, BaseOf, Ready}
+use Rattle.listing.specs.Forms.{ownForms, listedTo, Form, Entered, BaseOf, Ready}
 use Rattle.listing.specs.Whole.{Worked, NodeReady, countedOf, NodesListed}
 use Rattle.listing.proofs.Asked.{listed-all, code5Of, code5-begins, code5-turn, code5-over, code5-end}
 

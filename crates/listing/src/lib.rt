@@ -11,6 +11,7 @@ ghost use Rattle.nodes.specs.Nodes.{countNodes, nodesOf};
 ghost use Rattle.prefix.specs.Held.{NodesHeld};
 ghost use Rattle.listing.specs.Forms.{listedTo, placeIn, Entered, Ready, FormsEntered};
 ghost use Rattle.listing.specs.Lines.{LinesReady, markedBy, askedBy, askedIn, Clear, HypothesesMarked, QueriesNumbered};
+ghost use Rattle.listing.specs.Outcome.{ListReady, ListedFile};
 ghost use Rattle.listing.specs.Whole.{Worked, NodeReady, NodesListed};
 
 // "L is over 4,096" is code 5.
@@ -191,4 +192,40 @@ fn fill_queries(
         r = nodes[END + r] as usize;
     }
     q
+}
+
+// What the listing of a file comes to: L and the number of queries, or the place that code 5 gives.
+pub enum Listing {
+    Listed { formulas: usize, queries: usize },
+    TooMany { place: usize },
+}
+
+// Lists a file's formulas, fills the formula table and numbers the queries. Where the list is too long, both buffers stay as they
+// were.
+pub fn list(
+    file: &[u8],
+    nodes: &[u16],
+    count: usize,
+    table: &mut [u16],
+    queries: &mut [u16],
+) -> Listing
+    requires { ⌜ ListReady (now file) (now nodes) count (now table) (now queries) ⌝ }
+    ensures { λ r. ⌜ ListedFile (now (file .entry)) (now (table .entry)) (now (queries .entry)) (now (table .exit)) (now (queries .exit)) r ⌝ }
+{
+    let mut cand = [0u16; 16384];
+    let mut keys = [0u32; 4112];
+    let mut owners = [0u32; 4112];
+    let counted = list_nodes(file, nodes, count, &mut cand, &mut keys, &mut owners);
+    match counted {
+        Counted::Over(place) => Listing::TooMany { place },
+        Counted::Formulas(n) => {
+            columns::fill_columns(nodes, &cand, &keys, &owners, n, table);
+            fill_hypotheses(file, nodes, count, &cand, table);
+            let asked = fill_queries(file, nodes, count, &cand, queries);
+            Listing::Listed {
+                formulas: n,
+                queries: asked,
+            }
+        }
+    }
 }

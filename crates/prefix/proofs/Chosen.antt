@@ -5,10 +5,8 @@ use Prim.Native.Nat.{ℕ, zero, suc, _+_, _*_, _-_, _/_, _%_, _^_, _≤_, _<_}
 use native.Mathlib.Nat.{pow-suc, le-trans}
 use native.Mathlib.Omega.{arith}
 use mathlib.Core.Path.{_≡_, refl, sym, _∙_, ap, ap₂, subst}
-use mathlib.Core.Bool.{Bool, true, false, cond, _&&_}
-use mathlib.Core.List.{List, [], _∷_, _++_, map, append-nil}
-use lib.ListN.{length, getD, length-append, length-map, List·getD-map}
-use lib.Dec.{eqb}
+use mathlib.Core.List.{List, [], _∷_}
+use lib.ListN.{length, getD, length-map, List·getD-map}
 use lib.Pow.{pow-mono}
 use Rattle.infon.specs.Formula.{Told, said, put, Quotation, Formula}
 use Rattle.infon.specs.Listing.{Prefix, wrap, weakerTold, inside, insideEach, weakerPrefixes, weakened}
@@ -102,24 +100,7 @@ unfolding waysTo
 ways-positive [] = omega arith
 ways-positive (q ∷ outer) = branched-positive (q .told) (waysTo outer) (ways-positive outer)
 
--- number 0 is the prefix itself, the last one has put at every place
-retold-first : (told : Told) → loweredTold told 0 ≡ told
-unfolding loweredTold
-retold-first said = refl
-retold-first put = refl
-
-none-later : (told : Told) → laterBits (isSaid told) 0 ≡ 0
-unfolding isSaid laterBits
-none-later said = refl
-none-later put = refl
-
-pub choose-first : (w : Prefix) → choose w 0 ≡ w
-unfolding choose
-choose-first [] = refl
-choose-first (q ∷ outer) =
-    ap₂ (λ (t : Told) (v : Prefix). record { told = t; principal = q .principal } ∷ v) (retold-first (q .told))
-    (ap (choose outer) (none-later (q .told)) ∙ choose-first outer)
-
+-- the last one has put at every place
 retold-last : (told : Told) (n : ℕ) → 0 < n → loweredTold told (branches (isSaid told) n - 1) ≡ put
 unfolding loweredTold isSaid branches
 retold-last said n h = let e : (2 * n - 1) % 2 ≡ 1 = omega arith in rw e

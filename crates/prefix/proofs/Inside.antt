@@ -1,20 +1,18 @@
 -- The forms of a node and of the nodes inside it: behind a quotation and below `+` and `>` the parts' forms are forms of nodes.
 -- Assumes nothing.
-use Prim.Native.Nat.{ℕ, zero, suc, _+_, _*_, _-_, _≤_, _<_}
+use Prim.Native.Nat.{ℕ, suc, _+_, _≤_, _<_}
 use native.Mathlib.Omega.{arith}
 use mathlib.Core.Path.{_≡_, refl, sym, _∙_, ap, ap₂, subst}
 use mathlib.Core.Logic.{_⊎_, inl, inr}
-use mathlib.Core.Bool.{Bool, true, false, true≢false, false≢true}
-use mathlib.Core.List.{List, [], _∷_}
-use lib.ListN.{length, getD}
+use mathlib.Core.Bool.{true, false}
+use mathlib.Core.List.{List, _∷_}
+use lib.ListN.{length}
 use Rattle.infon.specs.Formula.{Told, said, put, Quotation, Formula, True, name, and, implies, quoted, spelling, nodes}
 use Rattle.infon.specs.Listing.{Prefix, wrap}
-use Rattle.nodes.specs.Nodes.{Node, part, inner, nodeAt, countNodes, kindOf, nodesOf}
+use Rattle.nodes.specs.Nodes.{Node, part, inner, nodeAt, countNodes, kindOf}
 use Rattle.nodes.proofs.Order.{node-within, nodes-positive, and-left, and-right, implies-left, implies-right, quoted-inner}
-use Rattle.prefix.specs.Weaker.{isSaid, waysTo, choose, inwards, isBase, formAt}
-use Rattle.prefix.specs.Held.{NodesHeld}
-use Rattle.prefix.proofs.Chosen.{ways-bound, wrap-inwards, inwards-below}
-use Rattle.prefix.proofs.Shown.{kind-cell, pre-few}
+use Rattle.prefix.specs.Weaker.{waysTo, choose, inwards, isBase, formAt}
+use Rattle.prefix.proofs.Chosen.{wrap-inwards, inwards-below}
 
 -- what a kind tells of the formula
 abbrev IsQuoted : Formula → Type 0

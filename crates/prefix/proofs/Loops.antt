@@ -1,19 +1,19 @@
 -- The loops over the places of a prefix, a turn each.
 -- Assumes nothing.
-use Prim.Native.Nat.{ℕ, zero, suc, _+_, _*_, _-_, _/_, _%_, _^_, _≤_, _<_}
+use Prim.Native.Nat.{ℕ, suc, _+_, _*_, _-_, _^_, _≤_, _<_}
 use native.Mathlib.Nat.{pow-suc, le-trans}
 use native.Mathlib.Numerals.{add-one}
 use native.Mathlib.Omega.{arith}
 use mathlib.Core.Path.{_≡_, refl, sym, _∙_, ap, subst}
-use mathlib.Core.Bool.{Bool, true, false, _&&_}
+use mathlib.Core.Bool.{Bool, true, false}
 use mathlib.Core.List.{List, [], _∷_, _++_, append-assoc, append-nil}
 use lib.ListN.{length, getD, take, drop, set, replicate, length-set, length-take, length-drop, take-append-drop}
 use lib.Pow.{pow-mono}
-use lib.Seq.{getD-drop, drop-cons, take-suc-set, drop-set-lt, drop-drop, take-length, drop-length, take-all, getD-take, length-take-le}
+use lib.Seq.{getD-drop, drop-cons, take-suc-set, drop-set-lt, drop-drop, getD-take, length-take-le}
 use lib.ListN.{drop-of-length-le}
 use Rattle.prefix.specs.declared.Place.{Place}
 use Rattle.prefix.specs.declared.Prefix.{Prefix}
-use Rattle.prefix.specs.Places.{mostPlaces, used, blank, placeAt, upFrom, prefixAt, Climbs, Readable, branches, waysOf, lowered, laterBits, chosen, weakerAt, putWeight, putsOf}
+use Rattle.prefix.specs.Places.{blank, placeAt, upFrom, prefixAt, Climbs, Readable, branches, waysOf, lowered, laterBits, chosen, putWeight, putsOf}
 
 -- Up from a node: so many places are read, and what is still to be read is known.
 pub record Climbed (t : List ℕ) (count : ℕ) (whole places : List Place) (above k : ℕ) : Type 0 where
@@ -168,9 +168,6 @@ pub record Lowered (count m : ℕ) (first places : List Place) (left k : ℕ) : 
   pub size : length places ≡ length first
   pub later : drop k places ≡ drop k first
   pub rest : take k places ++ chosen (drop k (take count first)) left ≡ chosen (take count first) m
-
-pub lower-begins : (count m : ℕ) (first : List Place) → Lowered count m first first m 0
-lower-begins count m first = record { so-far = omega arith; size = refl; later = refl; rest = refl }
 
 module _ (count m : ℕ) (first places : List Place) (left k : ℕ) (fits : count ≤ length first) (so : Lowered count m first places left k) where
   module _ (d : Place) (h : k < count) where

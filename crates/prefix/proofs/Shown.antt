@@ -1,26 +1,25 @@
 -- Places against quotations: what the places of a prefix by value show, and that the places above a node show its prefix.
 -- Assumes nothing.
-use Prim.Native.Nat.{ℕ, zero, suc, _+_, _*_, _-_, _/_, _%_, _^_, _≤_, _<_}
+use Prim.Native.Nat.{ℕ, zero, suc, _+_, _*_, _-_, _%_, _^_, _≤_, _<_}
 use native.Mathlib.Nat.{zero-add}
 use native.Mathlib.Omega.{arith}
 use mathlib.Core.Path.{_≡_, refl, sym, _∙_, ap, ap₂, subst}
-use mathlib.Core.Logic.{_⊎_, inl, inr, ⊎-elim}
+use mathlib.Core.Logic.{inl, inr}
 use mathlib.Core.Bool.{Bool, true, false, cond, _&&_}
-use mathlib.Core.List.{List, [], _∷_, _++_, map}
-use lib.ListN.{length, getD, take, drop, replicate, length-append, length-map, length-take, length-drop, length-replicate}
-use lib.Seq.{take-append-seam, take-at, length-take-le}
+use mathlib.Core.List.{List, [], _∷_, map}
+use lib.ListN.{length, getD, drop, replicate, length-append, length-map, length-drop, length-replicate}
+use lib.Seq.{take-at, length-take-le}
 use lib.Dec.{eqb}
-use Rattle.infon.specs.Formula.{Told, said, put, Quotation, Formula, True, name, and, implies, quoted, spelling, nodes}
+use Rattle.infon.specs.Formula.{Told, said, put, Quotation, Formula, True, name, and, implies, quoted, nodes}
 use Rattle.infon.specs.Policy.{entriesOf, mostNodes, mostDepth}
-use Rattle.infon.specs.Listing.{wrap}
 use Rattle.infon.specs.Listing.{Prefix as Quotations}
 use Rattle.table.specs.Table.{putBit, putMask}
-use Rattle.nodes.specs.Nodes.{Node, nodeAt, countNodes, nodeRows, nodeColumns, kindOf, ownBytes, nodeCell, Noded, nodesOf, roots}
-use Rattle.nodes.proofs.Every.{Linked, Below, node-linked}
+use Rattle.nodes.specs.Nodes.{Node, nodeAt, countNodes, nodeRows, nodeColumns, kindOf, ownBytes, nodeCell, nodesOf, roots}
+use Rattle.nodes.proofs.Every.{Linked, node-linked}
 use Rattle.nodes.proofs.Codes.{code3-few, code4-roots, shallow-nodes}
 use Rattle.prefix.specs.declared.Place.{Place}
 use Rattle.prefix.specs.declared.Prefix.{Prefix}
-use Rattle.prefix.specs.Places.{mostPlaces, Sized, used, EachPlace, blank, placeAt, upFrom, prefixAt, Climbs, Readable, branches, waysOf, lowered, laterBits, chosen, weakerAt, putWeight, putsOf}
+use Rattle.prefix.specs.Places.{Sized, used, EachPlace, blank, placeAt, upFrom, prefixAt, Climbs, Readable, branches, waysOf, lowered, laterBits, chosen, weakerAt, putWeight, putsOf}
 use Rattle.prefix.specs.Held.{NodesHeld}
 use Rattle.prefix.specs.Weaker.{isSaid, loweredTold, waysTo, choose}
 

@@ -2,13 +2,13 @@
 -- Assumes nothing.
 use native.Mathlib.Omega.{arith}
 use borrow.Author.Needs.{needs}
-use Prim.Native.Nat.{ℕ, _+_, _*_, _-_, _/_, _≤_, _<_}
+use Prim.Native.Nat.{ℕ, _+_, _*_, _-_, _/_, _<_}
 use mathlib.Core.Path.{_≡_, _∙_, ap}
-use lib.ListN.{length, getD}
+use lib.ListN.{getD}
 use Rattle.prefix.specs.declared.Prefix.{Prefix}
-use Rattle.prefix.specs.Places.{Sized, used, prefixAt, waysOf}
+use Rattle.prefix.specs.Places.{used, prefixAt, waysOf}
 use Rattle.columns.specs.Columns.{stride, bottomColumn}
-use Rattle.columns.proofs.Steps.{form-row, form-table, form-readable, form-sized, form-ways-some, form-ways-few}
+use Rattle.columns.proofs.Steps.{form-row, form-readable, form-sized, form-ways-some, form-ways-few}
 use Rattle.columns.proofs.bottom_of.Statement.{statement}
 use Rattle.columns.proofs.bottom_of.Tie as tie
 

@@ -2,17 +2,16 @@
 -- Assumes nothing.
 use native.Mathlib.Omega.{arith}
 use Prim.Native.Nat.{_+_, _≤_, _<_}
-use mathlib.Core.Path.{_≡_, sym, _∙_, ap, ap₂}
-use lib.ListN.{length, getD, take, drop}
+use mathlib.Core.Path.{_≡_, sym, _∙_, ap₂}
+use lib.ListN.{length}
 use borrow.Author.Tests.{not-true, not-false}
-use Rattle.infon.specs.Bytes.{alike}
 use Rattle.infon.specs.Formula.{spelling}
 use Rattle.nodes.specs.Nodes.{nodeAt, nodesOf}
 use Rattle.prefix.specs.declared.Prefix.{Prefix}
-use Rattle.prefix.specs.Places.{Sized, used, EachPlace, prefixAt}
-use Rattle.prefix.proofs.Shown.{count-few, table-long, readable, prefix-sized, depth-cell}
-use Rattle.kin.specs.Kin.{textLength, samePlaces, Quoting}
-use Rattle.kin.proofs.Texts.{text-length, text-inside, all-quoting}
+use Rattle.prefix.specs.Places.{used}
+use Rattle.prefix.proofs.Shown.{count-few, table-long, readable}
+use Rattle.kin.specs.Kin.{samePlaces}
+use Rattle.kin.proofs.Texts.{text-length, text-inside}
 use Rattle.kin.proofs.Same.{depths-apart, lengths-apart, texts-fail, texts-pass, places-asked}
 use Rattle.kin.proofs.akin.Statement.{statement}
 use Rattle.kin.proofs.akin.Tie as tie

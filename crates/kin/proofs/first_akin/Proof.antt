@@ -2,7 +2,7 @@
 -- Assumes nothing.
 use borrow.Author.Needs.{needs}
 use native.Mathlib.Omega.{arith}
-use Prim.Native.Nat.{ℕ, _≤_, _<_, _-_}
+use Prim.Native.Nat.{ℕ, _≤_, _-_}
 use mathlib.Core.Path.{_≡_, sym, _∙_, ap}
 use Rattle.nodes.specs.Nodes.{nodeAt, nodesOf}
 use Rattle.kin.specs.Kin.{akinNodes, firstFrom, kinOf}

@@ -2,9 +2,8 @@
 -- Assumes nothing.
 use borrow.Author.Needs.{needs}
 use native.Mathlib.Omega.{arith}
-use Prim.Native.Nat.{ℕ, _+_, _-_, _≤_, _<_}
-use mathlib.Core.Path.{_≡_, refl, sym, _∙_, subst}
-use lib.ListN.{length, getD}
+use Prim.Native.Nat.{ℕ, _+_, _-_, _≤_}
+use mathlib.Core.Path.{refl, subst}
 use Rattle.prefix.proofs.Shown.{table-long}
 use Rattle.listing.proofs.Marks.{line-is-form, line-row, line-inside, line-further, MarksTo, marks-begin, mark-room, mark-number, marks-on, marks-over}
 use Rattle.listing.proofs.fill_hypotheses.Statement.{statement}

@@ -1,9 +1,8 @@
 -- `listing::fill_queries` meets its contract: the numbers written so far are those of the queries so far.
 -- Assumes nothing.
 use native.Mathlib.Omega.{arith}
-use Prim.Native.Nat.{ℕ, _+_, _-_, _≤_, _<_}
-use mathlib.Core.Path.{_≡_, refl, sym, _∙_, subst}
-use lib.ListN.{length, getD}
+use Prim.Native.Nat.{ℕ, _+_, _-_, _≤_}
+use mathlib.Core.Path.{refl, subst}
 use Rattle.prefix.proofs.Shown.{count-few, table-long}
 use Rattle.listing.proofs.Marks.{line-is-form, line-row, line-inside, line-further, AskedTo, asked-begin, asked-size, ask-room, asked-on, asked-over}
 use Rattle.listing.proofs.fill_queries.Statement.{statement}

@@ -1,9 +1,9 @@
 -- `listing::list_forms` meets its contract: each form is found or put behind the others, in the order of the weaker prefixes.
 -- Assumes nothing.
 use native.Mathlib.Omega.{arith}
-use Prim.Native.Nat.{ℕ, _+_, _*_, _-_, _≤_, _<_}
-use mathlib.Core.Path.{_≡_, refl, sym, _∙_, ap, subst}
-use lib.ListN.{length, take}
+use Prim.Native.Nat.{_+_, _*_, _-_, _<_}
+use mathlib.Core.Path.{_≡_, refl, _∙_, ap}
+use lib.ListN.{take}
 use lib.Seq.{length-take-le}
 use Rattle.prefix.specs.declared.Prefix.{Prefix}
 use Rattle.prefix.specs.Places.{used, weakerAt, putsOf}

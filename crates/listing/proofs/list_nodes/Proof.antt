@@ -2,8 +2,7 @@
 -- Assumes nothing.
 use native.Mathlib.Omega.{arith}
 use Prim.Native.Nat.{ℕ, _+_, _-_, _≤_, _<_}
-use mathlib.Core.Path.{_≡_, sym, _∙_, subst}
-use Rattle.nodes.specs.Nodes.{countNodes, nodesOf}
+use mathlib.Core.Path.{_∙_, subst}
 use Rattle.prefix.proofs.Shown.{count-few, table-long}
 use Rattle.listing.proofs.Nodewise.{NodesTo, nodes-begin, node-ready, nodes-on, nodes-over, nodes-all}
 use Rattle.listing.proofs.list_nodes.Statement.{statement}

@@ -1,5 +1,3 @@
-use borrow.Author.Needs.{needs}
-use native.Mathlib.Omega.{arith}
 use Rattle.prefix.specs.Places.{laterBits}
 use Rattle.prefix.proofs.bits_left.Statement.{statement}
 use Rattle.prefix.proofs.bits_left.Tie as tie

@@ -1,4 +1,3 @@
-use native.Mathlib.Omega.{arith}
 use borrow.Author.Needs.{needs}
 use Rattle.prefix.specs.Places.{branches}
 use Rattle.prefix.proofs.branched.Statement.{statement}

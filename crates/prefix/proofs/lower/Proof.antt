@@ -1,5 +1,3 @@
-use borrow.Author.Needs.{needs}
-use native.Mathlib.Omega.{arith}
 use Rattle.prefix.specs.Places.{lowered}
 use Rattle.prefix.proofs.lower.Statement.{statement}
 use Rattle.prefix.proofs.lower.Tie as tie

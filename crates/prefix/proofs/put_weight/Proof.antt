@@ -1,5 +1,3 @@
-use borrow.Author.Needs.{needs}
-use native.Mathlib.Omega.{arith}
 use Rattle.prefix.specs.Places.{putWeight}
 use Rattle.prefix.proofs.put_weight.Statement.{statement}
 use Rattle.prefix.proofs.put_weight.Tie as tie

@@ -5,7 +5,7 @@ use native.Mathlib.Omega.{arith}
 use Prim.Native.Nat.{_-_, _≤_}
 use lib.ListN.{length}
 use Rattle.prefix.specs.Places.{weakerAt, blank}
-use Rattle.prefix.proofs.Loops.{Lowered, lower-begins, lower-turn, lower-over, same-places}
+use Rattle.prefix.proofs.Loops.{Lowered, lower-turn, lower-over, same-places}
 use Rattle.prefix.proofs.weaker.Statement.{statement}
 use Rattle.prefix.proofs.weaker.Tie as tie
 
