@@ -1,12 +1,12 @@
--- `journal::number_at` meets its contract: a byte is below 256, so that the number fits.
+-- `reader::number_at` meets its contract: a byte is below 256, so that the number fits.
 -- Assumes nothing.
 use mathlib.Core.Path.{refl}
 use Prim.Native.Nat.{_+_}
 use native.Mathlib.Omega.{arith}
 use Rattle.infon.specs.Journal.{numberAt}
 use borrow.Author.Needs.{needs}
-use Rattle.journal.proofs.number_at.Statement.{statement}
-use Rattle.journal.proofs.number_at.Tie as tie
+use Rattle.reader.proofs.number_at.Statement.{statement}
+use Rattle.reader.proofs.number_at.Tie as tie
 
 shared-slice-read-result : tie.Need-shared-slice-read-result
 shared-slice-read-result c = search needs

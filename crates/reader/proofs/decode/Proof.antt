@@ -1,11 +1,11 @@
--- `journal::decode` meets its contract: each branch is a law of `Reading`.
+-- `reader::decode` meets its contract: each branch is a law of `Reading`.
 -- Assumes nothing.
 use mathlib.Core.Path.{refl}
-use Rattle.journal.specs.Decoded.{toDecoded}
-use Rattle.journal.proofs.Reading.{by-case, unmarked-high, unmarked-low, read-nothing, read-record}
+use Rattle.reader.specs.Decoded.{toDecoded}
+use Rattle.reader.proofs.Reading.{by-case, unmarked-high, unmarked-low, read-nothing, read-record}
 use borrow.Author.Needs.{needs}
-use Rattle.journal.proofs.decode.Statement.{statement}
-use Rattle.journal.proofs.decode.Tie as tie
+use Rattle.reader.proofs.decode.Statement.{statement}
+use Rattle.reader.proofs.decode.Tie as tie
 
 shared-slice-read-if1 : tie.Need-shared-slice-read-if1
 shared-slice-read-if1 c = search needs

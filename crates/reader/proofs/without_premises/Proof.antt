@@ -1,10 +1,10 @@
--- `journal::without_premises` meets its contract: each branch is a law of `Reading`.
+-- `reader::without_premises` meets its contract: each branch is a law of `Reading`.
 -- Assumes nothing.
 use mathlib.Core.Path.{refl}
-use Rattle.journal.specs.Decoded.{toRule}
-use Rattle.journal.proofs.Reading.{by-case, alone-both, alone-first, alone-neither}
-use Rattle.journal.proofs.without_premises.Statement.{statement}
-use Rattle.journal.proofs.without_premises.Tie as tie
+use Rattle.reader.specs.Decoded.{toRule}
+use Rattle.reader.proofs.Reading.{by-case, alone-both, alone-first, alone-neither}
+use Rattle.reader.proofs.without_premises.Statement.{statement}
+use Rattle.reader.proofs.without_premises.Tie as tie
 
 returns : tie.Need-returns
 returns c = by-case toRule (alone-both _ _ _ (c .before .if1 .taken) (c .if2 .taken)) refl

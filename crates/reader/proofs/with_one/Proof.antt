@@ -1,10 +1,10 @@
--- `journal::with_one` meets its contract: each branch is a law of `Reading`.
+-- `reader::with_one` meets its contract: each branch is a law of `Reading`.
 -- Assumes nothing.
 use mathlib.Core.Path.{refl}
-use Rattle.journal.specs.Decoded.{toRule}
-use Rattle.journal.proofs.Reading.{by-case, one-alone, one-more}
-use Rattle.journal.proofs.with_one.Statement.{statement}
-use Rattle.journal.proofs.with_one.Tie as tie
+use Rattle.reader.specs.Decoded.{toRule}
+use Rattle.reader.proofs.Reading.{by-case, one-alone, one-more}
+use Rattle.reader.proofs.with_one.Statement.{statement}
+use Rattle.reader.proofs.with_one.Tie as tie
 
 returns : tie.Need-returns
 returns c = by-case toRule (one-alone _ _ (c .if1 .taken)) refl

@@ -1,16 +1,17 @@
--- One law for each branch of the record decoder.
+-- One law for each branch of the record decoder, and for what is found at a place of a journal.
 -- Assumes nothing.
-use Prim.Native.Nat.{ℕ}
+use Prim.Native.Nat.{ℕ, _+_, _-_, _≤_, _<_}
+use native.Mathlib.Omega.{arith}
 use mathlib.Core.Path.{_≡_, refl, sym, _∙_, ap}
 use mathlib.Core.Option.{Option, none, some}
 use mathlib.Core.List.{List}
-use lib.ListN.{getD}
-use borrow.Author.Tests.{eq-eqb, ne-eqb}
+use lib.ListN.{length, take, drop, getD, length-drop}
+use borrow.Author.Tests.{eq-eqb, ne-eqb, lt-ltb, le-ltb}
 use Rattle.infon.specs.declared.Way.{Way}
-use Rattle.infon.specs.Journal.{noPremise, alone, withOne, wayOf, recordFor, numberAt, decoded}
-use Rattle.journal.specs.declared.Rule.{Rule}
-use Rattle.journal.specs.declared.Rule.the-variants.{By, Unknown}
-use Rattle.journal.specs.Decoded.{toRule}
+use Rattle.infon.specs.Journal.{noPremise, alone, withOne, wayOf, recordFor, numberAt, decoded, recordBytes}
+use Rattle.reader.specs.declared.Rule.{Rule}
+use Rattle.reader.specs.declared.Rule.the-variants.{By, Unknown}
+use Rattle.reader.specs.Decoded.{toRule, recordAt}
 
 -- what holds of a case holds of a value that is that case
 pub by-case : {A B : Type 0} (f : A → B) {x y : A} {z : B} → x ≡ y → z ≡ f y → z ≡ f x
@@ -71,3 +72,16 @@ module _ (s : List ℕ) {first second : ℕ} {rule : Rule} (high : getD s 0 0 �
   pub read-record : (way : Way) {n : ℕ} → rule ≡ By way → n ≡ numberAt s 3 → decoded s ≡ some (record { formula = n; way = way })
   unfolding decoded recordFor
   read-record way e h = rw (eq-eqb (getD s 0 0) 0x4C high, eq-eqb (getD s 1 0) 0x51 low, rule-by (wayOf (getD s 2 0) (numberAt s 5) (numberAt s 7)) way (sym e ∙ found-at), h)
+
+module _ (journal : List ℕ) (at : ℕ) where
+  pub few-left : length journal < at + 9 → recordAt journal at ≡ none
+  unfolding recordAt recordBytes
+  few-left h = let few : length (drop at journal) < 9 = simp length-drop (omega arith) in rw (lt-ltb (length (drop at journal)) 9 few)
+
+  pub nine-left : at + 9 ≤ length journal → recordAt journal at ≡ decoded (take 9 (drop at journal))
+  unfolding recordAt recordBytes
+  nine-left h = let nine : 9 ≤ length (drop at journal) = simp length-drop (omega arith) in rw (le-ltb (length (drop at journal)) 9 nine)
+
+  -- the nine bytes as the code takes them
+  pub part-left : at + 9 ≤ length journal → recordAt journal at ≡ decoded (take (at + 9 - at) (drop at journal))
+  part-left h = let nine : at + 9 - at ≡ 9 = omega arith in rw nine (nine-left h)

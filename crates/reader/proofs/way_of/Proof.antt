@@ -1,13 +1,13 @@
--- `journal::way_of` meets its contract: each arm is one rule, and the last a number that is no rule's.
+-- `reader::way_of` meets its contract: each arm is one rule, and the last a number that is no rule's.
 -- Assumes nothing.
 use mathlib.Core.Path.{refl}
 use Prim.Native.Nat.{ℕ}
 use Rattle.infon.specs.Journal.{wayOf}
-use Rattle.journal.specs.Decoded.{toRule}
-use Rattle.journal.proofs.Reading.{by-case, no-rule}
+use Rattle.reader.specs.Decoded.{toRule}
+use Rattle.reader.proofs.Reading.{by-case, no-rule}
 use borrow.Author.Needs.{needs}
-use Rattle.journal.proofs.way_of.Statement.{statement}
-use Rattle.journal.proofs.way_of.Tie as tie
+use Rattle.reader.proofs.way_of.Statement.{statement}
+use Rattle.reader.proofs.way_of.Tie as tie
 
 without-premises-requires : tie.Need-without-premises-requires
 without-premises-requires c κs = search needs
