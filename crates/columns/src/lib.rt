@@ -5,18 +5,22 @@ ghost use Prim.Native.Nat.{_*_, _<_, _≤_};
 ghost use lib.ListN.{length};
 ghost use Rattle.columns.specs.Columns.{stride, inwardKind, numberAt, kindColumn, putColumn, leftColumn, rightColumn, bottomColumn, withColumn, nothing, filled, IsForm, Owner, Owners, Room};
 
-// How many forms a node has at most, two to the number of places; and how many rows a column of the formula table has.
+// How many forms a node has at most: two to the number of places.
 pub const WAYS: usize = 16;
 
-pub const ROWS: usize = 4096;
+// Where the columns of the formula table begin, behind the kinds: the put places,
+const PUTS: usize = 4096;
 
-// Where the columns of the formula table begin.
+// the left parts,
 const LEFTS: usize = 8192;
 
+// the right parts,
 const RIGHTS: usize = 12288;
 
+// the forms with put at every place,
 const BOTTOMS: usize = 16384;
 
+// and the hypotheses.
 const HYPOTHESES: usize = 20480;
 
 // Where the node table's column begins that tells the number behind a node's last node.
@@ -112,7 +116,7 @@ fn fill_puts(keys: &[u32], n: usize, table: &mut [u16])
     let mut i = 0;
     while i < n {
         let puts = keys[i] as usize % WAYS;
-        table[ROWS + i] = puts as u16;
+        table[PUTS + i] = puts as u16;
         i += 1;
     }
 }

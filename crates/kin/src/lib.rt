@@ -10,13 +10,16 @@ ghost use Rattle.prefix.specs.Places.{Sized, used, EachPlace};
 ghost use Rattle.prefix.specs.Held.{NodesHeld};
 ghost use Rattle.kin.specs.Kin.{akinNodes, kinOf, textLength, principalText, samePlaces, IsNode, Quoting};
 
-// Where the node table's columns begin: place, own bytes, end, depth.
+// Where the node table's columns begin: a node's first byte,
 const PLACE: usize = 1024;
 
+// its own bytes,
 const OWN: usize = 2048;
 
+// the number behind its last node,
 const END: usize = 3072;
 
+// and how many quotations are above it.
 const DEPTH: usize = 6144;
 
 // Whether the n bytes at a are those at b.

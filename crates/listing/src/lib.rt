@@ -1,5 +1,6 @@
 // The list of formulas that matter, and the formula table: all bases in order, each weaker prefix in order, each formula found
-// among those listed or put behind them.
+// among those listed or put behind them. Form m of node b, its formula under weaker prefix number m, stands at b * WAYS + m: `cand`
+// has the number of every form of a base, `owners` the form as which a formula was first listed, `keys` that form's key.
 use columns::WAYS;
 use prefix::Prefix;
 ghost use mathlib.Core.Path.{_≡_};
@@ -17,9 +18,16 @@ ghost use Rattle.listing.specs.Whole.{Worked, NodeReady, NodesListed};
 // "L is over 4,096" is code 5.
 const MOST: usize = 4096;
 
-// Where the node table's columns begin that tell the number behind a node's last node and the start of its line.
+// The forms of 1,024 nodes.
+const FORMS: usize = 16384;
+
+// Room for a list that the last base takes over the limit.
+const ROOM: usize = 4112;
+
+// Where the node table's column begins that tells the number behind a node's last node.
 const END: usize = 3072;
 
+// Where the node table's column begins that tells the start of a node's line.
 const LINE: usize = 5120;
 
 // Where the formula table's column of hypotheses begins.
@@ -103,7 +111,7 @@ fn list_node(
 }
 
 // So many formulas are listed, or the line at a place needs one too many.
-pub enum Counted {
+enum Counted {
     Formulas(usize),
     Over(usize),
 }
@@ -212,9 +220,9 @@ pub fn list(
     requires { ⌜ ListReady (now file) (now nodes) count (now table) (now queries) ⌝ }
     ensures { λ r. ⌜ ListedFile (now (file .entry)) (now (table .entry)) (now (queries .entry)) (now (table .exit)) (now (queries .exit)) r ⌝ }
 {
-    let mut cand = [0u16; 16384];
-    let mut keys = [0u32; 4112];
-    let mut owners = [0u32; 4112];
+    let mut cand = [0u16; FORMS];
+    let mut keys = [0u32; ROOM];
+    let mut owners = [0u32; ROOM];
     let counted = list_nodes(file, nodes, count, &mut cand, &mut keys, &mut owners);
     match counted {
         Counted::Over(place) => Listing::TooMany { place },

@@ -7,9 +7,10 @@ ghost use Rattle.prefix.specs.Places.{Sized, used, prefixAt, Readable, b
 // "A prefix is at most four places": the one number to change for longer ones.
 pub const PLACES: usize = 4;
 
-// Where the node table's columns begin that tell the nearest quotation above a node and how many are above it.
+// Where the node table's column begins that tells the nearest quotation above a node.
 const ABOVE: usize = 4096;
 
+// Where the node table's column begins that tells how many quotations are above a node.
 const DEPTH: usize = 6144;
 
 // One place: its kind, and the number of its quotation node.

@@ -1,16 +1,14 @@
 -- Numbers while a list grows at its end: what is listed keeps its number, and what is new gets the next one.
 -- Assumes nothing.
-use Prim.Native.Nat.{ℕ, zero, suc, _+_, _≤_, _<_}
-use native.Mathlib.Omega.{arith}
-use mathlib.Core.Path.{_≡_, refl, sym, _∙_, ap, subst}
+use Prim.Native.Nat.{suc}
+use mathlib.Core.Path.{_≡_, refl, ap}
 use mathlib.Core.Logic.{⊎-elim}
-use mathlib.Core.Bool.{Bool, true, false, cond, _||_, true≢false, false≢true}
+use mathlib.Core.Bool.{true, false, true≢false, false≢true}
 use mathlib.Core.List.{List, [], _∷_, _++_}
-use lib.ListN.{length, getD}
+use lib.ListN.{length}
 use Rattle.infon.specs.Bytes.{someOf}
 use Rattle.infon.specs.Formula.{Formula, same}
 use Rattle.infon.specs.Listing.{isListed}
-use Rattle.infon.specs.Rules.{numbered}
 use Rattle.infon.proofs.Rows.{decided}
 use Rattle.infon.proofs.Same.{same-refl}
 use Rattle.table.specs.Table.{numberIn}
