@@ -3,3 +3,4 @@ pub mod Outcomes
 pub mod Working
 pub mod Proceeding
 pub mod Accepting
+pub mod Promises

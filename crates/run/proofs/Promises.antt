@@ -1,0 +1,139 @@
+-- The demands of the person who asked, for the function `run` itself: whatever report and buffers it leaves, given only its
+-- contract. Each stands under its plain sentence; the theorems about the definitions are in `infon`.
+-- Assumes nothing.
+use Prim.Native.Nat.{ℕ, _≤_, _<_, min}
+use mathlib.Core.Path.{_≡_, sym, _∙_, ap, subst}
+use mathlib.Core.Logic.{_↔_}
+use mathlib.Core.Bool.{true, false}
+use mathlib.Core.List.{List}
+use lib.ListN.{length, take, getD}
+use Rattle.infon.specs.declared.Report.{Report}
+use Rattle.infon.specs.Calculus.{Derives}
+use Rattle.infon.specs.Rules.{numbered}
+use Rattle.infon.specs.Journal.{isRecorded, spelledAll}
+use Rattle.infon.specs.Run.{isOnRecord, Missing, Outcome, refusal, run}
+use Rattle.infon.proofs.Codec.{AreBytes}
+use Rattle.infon.proofs.Cuts.{Reached}
+use Rattle.infon.proofs.Refusals.{Rule, refusal-given, refusal-only}
+use Rattle.infon.proofs.Demands as Demands
+use Rattle.infon.proofs.Demands.{hypothesesIn, queriesIn, queryAt, listIn, keptIn, leftIn}
+use Rattle.run.specs.Prepared.{left}
+
+-- the contract of `run`
+abbrev pub Ran : List ℕ → List ℕ → ℕ → ℕ → List ℕ → Report → List ℕ → List ℕ → Type 0
+Ran file journal used limit answers report journalAfter answersAfter =
+    left report journalAfter answersAfter ≡ run file journal used limit answers
+
+-- It leaves one answer, and one content of both buffers.
+pub one-answer : (file journal : List ℕ) (used limit : ℕ) (answers : List ℕ) {report other : Report}
+    {journalAfter answersAfter journalOther answersOther : List ℕ}
+    → Ran file journal used limit answers report journalAfter answersAfter
+    → Ran file journal used limit answers other journalOther answersOther
+    → (report ≡ other) × ((journalAfter ≡ journalOther) × (answersAfter ≡ answersOther))
+one-answer file journal used limit answers first second =
+    let same = first ∙ sym second in
+    (ap (λ (o : Outcome). o .report) same, (ap (λ (o : Outcome). o .journal) same, ap (λ (o : Outcome). o .answers) same))
+
+module _ (file journal : List ℕ) (used limit : ℕ) (answers : List ℕ) (report : Report) (journalAfter answersAfter : List ℕ)
+    (ran : Ran file journal used limit answers report journalAfter answersAfter) where
+  -- what holds of the paper's outcome holds of what `run` leaves
+  of-outcome : (P : Outcome → Type 0) → P (run file journal used limit answers) → P (left report journalAfter answersAfter)
+  of-outcome P h = subst P (sym ran) h
+
+  to-outcome : (P : Outcome → Type 0) → P (left report journalAfter answersAfter) → P (run file journal used limit answers)
+  to-outcome P h = subst P ran h
+
+  accepted : report .code ≡ 0 → run file journal used limit answers .report .code ≡ 0
+  accepted h = to-outcome (λ (o : Outcome). o .report .code ≡ 0) h
+
+  finished : report .finished ≡ true → run file journal used limit answers .report .finished ≡ true
+  finished h = to-outcome (λ (o : Outcome). o .report .finished ≡ true) h
+
+  -- ---- Demand 1
+
+  -- "Each refusal is given exactly when its rule says, and then journal and answers stay byte for byte as they were."
+  pub refused-where-its-rule-says : (code place : ℕ) → Rule file journal used limit answers code place
+      → ((c p : ℕ) → c < code → Rule file journal used limit answers c p → ⊥)
+      → left report journalAfter answersAfter ≡ refusal code place used journal answers
+  refused-where-its-rule-says code place rule none-before = ran ∙ refusal-given file journal used limit answers code place rule none-before
+
+  pub refused-only-there : 1 ≤ report .code
+      → Rule file journal used limit answers (report .code) (report .place)
+      × ((c p : ℕ) → c < report .code → Rule file journal used limit answers c p → ⊥)
+  refused-only-there h =
+      of-outcome
+      (λ (o : Outcome).
+      Rule file journal used limit answers (o .report .code) (o .report .place)
+      × ((c p : ℕ) → c < o .report .code → Rule file journal used limit answers c p → ⊥))
+      (refusal-only file journal used limit answers (to-outcome (λ (o : Outcome). 1 ≤ o .report .code) h))
+
+  -- ---- Demand 2
+
+  -- "Once the journal is finished, a query is yes exactly if some derivation .. reaches it from the hypotheses .."
+  pub yes-exactly-if-derivable : report .code ≡ 0 → report .finished ≡ true → (i : ℕ) → i < length (queriesIn file)
+      → (getD answersAfter i 0 ≡ 1) ↔ Derives (hypothesesIn file) (queryAt file i)
+  yes-exactly-if-derivable code ended i low =
+      of-outcome (λ (o : Outcome). (getD (o .answers) i 0 ≡ 1) ↔ Derives (hypothesesIn file) (queryAt file i))
+      (Demands.yes-exactly file journal used limit answers (accepted code) (finished ended) i low)
+
+  -- ".. and no exactly if none does."
+  pub no-exactly-if-not : report .code ≡ 0 → report .finished ≡ true → (i : ℕ) → i < length (queriesIn file)
+      → (getD answersAfter i 0 ≡ 0) ↔ (Derives (hypothesesIn file) (queryAt file i) → ⊥)
+  no-exactly-if-not code ended i low =
+      of-outcome (λ (o : Outcome). (getD (o .answers) i 0 ≡ 0) ↔ (Derives (hypothesesIn file) (queryAt file i) → ⊥))
+      (Demands.no-exactly file journal used limit answers (accepted code) (finished ended) i low)
+
+  -- "Before that, yes is said only where the journal already holds the record; .."
+  pub yes-only-where-recorded : report .code ≡ 0 → (i : ℕ) → i < length (queriesIn file) → getD answersAfter i 0 ≡ 1
+      → isOnRecord (listIn file) (leftIn file journal used limit) (queryAt file i) ≡ true
+  yes-only-where-recorded code i low answer =
+      Demands.yes-recorded-only file journal used limit answers (accepted code) i low
+      (to-outcome (λ (o : Outcome). getD (o .answers) i 0 ≡ 1) answer)
+
+  -- .. and the bytes that the journal now holds are those records.
+  pub journal-holds-them : AreBytes journal → report .code ≡ 0
+      → take (report .used) journalAfter ≡ spelledAll (leftIn file journal used limit)
+  journal-holds-them bytes code =
+      of-outcome (λ (o : Outcome). take (o .report .used) (o .journal) ≡ spelledAll (leftIn file journal used limit))
+      (Demands.leaves file journal used limit answers (accepted code) bytes)
+
+  -- ".. the rest is open."
+  pub rest-is-open : report .code ≡ 0 → report .finished ≡ false → (i : ℕ) → i < length (queriesIn file)
+      → isOnRecord (listIn file) (leftIn file journal used limit) (queryAt file i) ≡ false → getD answersAfter i 0 ≡ 2
+  rest-is-open code going i low off =
+      of-outcome (λ (o : Outcome). getD (o .answers) i 0 ≡ 2)
+      (Demands.rest-open file journal used limit answers (accepted code) (to-outcome (λ (o : Outcome). o .report .finished ≡ false) going) i low
+      off)
+
+  -- ---- Demand 3
+
+  -- "Each run adds as many records as its limit allows or as are missing, the smaller, and reports that number."
+  pub adds-the-smaller : report .code ≡ 0 → (m : ℕ) → Missing (hypothesesIn file) (keptIn file journal used) 0 (listIn file) m
+      → report .added ≡ min limit m
+  adds-the-smaller code m h =
+      of-outcome (λ (o : Outcome). o .report .added ≡ min limit m) (Demands.adds file journal used limit answers (accepted code) m h)
+
+  -- "The longest beginning in which every record is good .. is kept" (`kept-is-longest` of infon says that it is the longest)
+  pub keeps-the-longest : report .code ≡ 0 → report .kept ≡ length (keptIn file journal used)
+  keeps-the-longest code =
+      of-outcome (λ (o : Outcome). o .report .kept ≡ length (keptIn file journal used))
+      (Demands.keeps file journal used limit answers (accepted code))
+
+  -- "the finished journal then records exactly the derivable formulas of the file's list, .."
+  pub records-exactly-the-derivable : report .code ≡ 0 → report .finished ≡ true → (n : ℕ) → n < length (listIn file)
+      → (isRecorded n (leftIn file journal used limit) ≡ true) ↔ Derives (hypothesesIn file) (numbered (listIn file) n)
+  records-exactly-the-derivable code ended n low =
+      Demands.records-exactly file journal used limit answers (accepted code) (finished ended) n low
+
+  -- "If that content is what cuts at any bytes left of a run begun on an empty journal for the same file .., the finished journal
+  -- equals the uncut one, run until it too is finished, byte for byte."
+  pub ends-as-the-uncut : (journal₀ : List ℕ) (limit₀ : ℕ) (answers₀ : List ℕ) (report₀ : Report) (after₀ answersAfter₀ : List ℕ)
+      → Ran file journal₀ 0 limit₀ answers₀ report₀ after₀ answersAfter₀ → Reached file journal used
+      → report .code ≡ 0 → report .finished ≡ true → report₀ .code ≡ 0 → report₀ .finished ≡ true
+      → take (report .used) journalAfter ≡ take (report₀ .used) after₀
+  ends-as-the-uncut journal₀ limit₀ answers₀ report₀ after₀ answersAfter₀ ran₀ reached code ended code₀ ended₀ =
+      let same =
+      Demands.cut-as-uncut file journal used limit answers journal₀ limit₀ answers₀ reached (accepted code) (finished ended)
+      (subst (λ (o : Outcome). o .report .code ≡ 0) ran₀ code₀) (subst (λ (o : Outcome). o .report .finished ≡ true) ran₀ ended₀) in
+      ap (λ (o : Outcome). take (o .report .used) (o .journal)) ran
+      ∙ (same .1 ∙ sym (ap (λ (o : Outcome). take (o .report .used) (o .journal)) ran₀))
