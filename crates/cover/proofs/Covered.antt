@@ -31,7 +31,7 @@ use Rattle.ways.proofs.Scan.{answer-missing, nextFrom, scan-begins, scan-found,
 use Rattle.cover.specs.declared.Next.{Next}
 use Rattle.cover.specs.declared.Next.the-variants.{Due, Finished}
 use Rattle.cover.specs.Members.{isIn, withoutMember, LeastIn}
-use Rattle.cover.specs.Touched.{Covers, wantedAll, touching, takingAll}
+use Rattle.cover.specs.Touched.{Covers, CoversBut, wantedAll, touching, takingAll}
 use Rattle.cover.specs.Found.{nextOf, Found}
 use Rattle.cover.proofs.Membership.{without-clears, without-keeps}
 use Rattle.cover.proofs.Wanting.{all-keeps, all-has, without-long}
@@ -75,16 +75,12 @@ module _ (t : List ℕ) (n : ℕ) (marks : List ℕ) where
     unfolding isMarked
     other-marked p apart = ap (λ (m : ℕ). ltb p n && eqb m 1) (getD-set-other marks f p 1 0 apart)
 
-    -- what is not marked now was not before; what is marked now was before, or is f
+    -- what is not marked now is not f, and was not marked before; what is marked now was marked before, or is f
+    not-now : (g : ℕ) → not (isMarked n (set marks f 1) g) ≡ true → g ≡ f → ⊥
+    not-now g h e = false≢true (subst (λ (b : Bool). not b ≡ true) (ap (isMarked n (set marks f 1)) e ∙ now-marked) h)
+
     still-open : (g : ℕ) → not (isMarked n (set marks f 1) g) ≡ true → not (isMarked n marks g) ≡ true
-    still-open g h =
-        ⊎-elim
-        (λ (e : eqb g f ≡ true).
-        absurd
-        (false≢true
-        (subst (λ (b : Bool). not b ≡ true) (ap (isMarked n (set marks f 1)) (eqb-true g f e) ∙ now-marked) h)))
-        (λ (e : eqb g f ≡ false). subst (λ (b : Bool). not b ≡ true) (other-marked g (eqb-false g f e)) h)
-        (decided (eqb g f))
+    still-open g h = subst (λ (b : Bool). not b ≡ true) (other-marked g (not-now g h)) h
 
     was-marked : (p : ℕ) → isMarked n (set marks f 1) p ≡ true → (p ≡ f) ⊎ (isMarked n marks p ≡ true)
     was-marked p h =
@@ -132,8 +128,8 @@ module _ (t : List ℕ) (n : ℕ) (marks : List ℕ) where
         touched-or (by g (Attach p)) p (parts .premises)
         (by-attach t n (set marks f 1) g p (ltb-true g n (parts .listed)) (leads-of t n (set marks f 1) g (Attach p) parts))
 
-    -- a set that covers and gains all that f touches covers after f is recorded
-    pub covers-touched : (cover : List ℕ) {after : List ℕ} → n ≤ 4096 → 64 ≤ length cover → Covers t n marks cover
+    -- a set that covers but for f and gains all that f touches covers after f is recorded
+    pub covers-touched : (cover : List ℕ) {after : List ℕ} → n ≤ 4096 → 64 ≤ length cover → CoversBut t n marks cover f
         → after ≡ wantedAll t n (set marks f 1) cover (touching t n f) → Covers t n (set marks f 1) after
     covers-touched cover few long covers e r good =
         let parts = goods t n (set marks f 1) (r .formula) (r .way) good in
@@ -149,7 +145,8 @@ module _ (t : List ℕ) (n : ℕ) (marks : List ℕ) where
           unmarked = still-open (r .formula) (parts .unmarked);
           premises = old;
           gives = parts .gives;
-        }))))
+        }))
+        (not-now (r .formula) (parts .unmarked))))
         (old-premises (r .formula) (r .way) parts))
 
   -- a formula for which no record is due has no good record
@@ -193,57 +190,63 @@ module _ (t : List ℕ) (n : ℕ) (marks : List ℕ) where
       record { long = refl; covers = covers; least = least; after = λ i h. refl; beyond = λ i h. refl }
 
   module _ {cover₀ cover : List ℕ} {f : ℕ} (passing : Passing cover₀ cover f) where
-    module _ (low : f < n) {due : Least} (is-due : due ≡ dueWayIn t n marks f) where
-      pub passing-found : {way : Way} → due ≡ By way → Found t n marks cover₀ (Due (by f way)) cover
+    -- a member that was asked for its way is taken out
+    module _ (low : f < n) {due : Least} (is-due : due ≡ dueWayIn t n marks f) (few : n ≤ 4096) (long : 64 ≤ length cover₀) {rest : List ℕ}
+        (is-rest : rest ≡ withoutMember cover f) where
+      is-long : 64 ≤ length cover
+      is-long = let same = passing .long in omega arith
+
+      inside : f < 4096
+      inside = omega arith
+
+      same-long : length rest ≡ length cover₀
+      same-long = ap length is-rest ∙ (without-long cover f ∙ passing .long)
+
+      other-in : (i : ℕ) → (i ≡ f → ⊥) → isIn rest i ≡ isIn cover i
+      other-in i apart = rw is-rest (without-keeps cover f inside is-long i apart)
+
+      f-out : isIn rest f ≡ false
+      f-out = rw is-rest (without-clears cover f inside is-long (passing .least .member inside))
+
+      out-to : (i : ℕ) → i < suc f → isIn rest i ≡ false
+      out-to i less =
+          ⊎-elim (λ (e : eqb i f ≡ true). ap (isIn rest) (eqb-true i f e) ∙ f-out)
+          (λ (e : eqb i f ≡ false).
+          let apart = eqb-false i f e in
+          other-in i apart ∙ passing .least .before i (omega (arith, apart)))
+          (decided (eqb i f))
+
+      covers-rest : CoversBut t n marks rest f
+      covers-rest r good apart = other-in (r .formula) apart ∙ passing .covers r good
+
+      pub passing-found : {way : Way} → due ≡ By way → Found t n marks cover₀ (Due (by f way)) rest
       unfolding nextOf
-      passing-found told =
+      passing-found {way} told =
           let to = scan-to cover (passing .covers) f (omega arith) (passing .least .before) in
           record {
             is-next = rw (to ∙ scan-found t n marks f low is-due told);
-            long = passing .long;
-            covers = passing .covers;
-            taken = passing .least .before;
-            stays = passing .after;
+            long = same-long;
+            covers = λ q e. let same : by f way ≡ q = cc in subst (λ (g : ℕ). CoversBut t n marks rest g) (ap (λ (p : Record). p .formula) same) covers-rest;
+            taken = out-to;
+            stays = λ i h. other-in i (λ e. omega arith) ∙ passing .after i (omega arith);
           }
 
-      module _ (few : n ≤ 4096) (long : 64 ≤ length cover₀) (told : due ≡ Missing) {rest : List ℕ} (is-rest : rest ≡ withoutMember cover f)
-          {next : ℕ} (least : LeastIn rest next) where
-        is-long : 64 ≤ length cover
-        is-long = let same = passing .long in omega arith
-
-        inside : f < 4096
-        inside = omega arith
-
-        other-in : (i : ℕ) → (i ≡ f → ⊥) → isIn rest i ≡ isIn cover i
-        other-in i apart = rw is-rest (without-keeps cover f inside is-long i apart)
-
-        f-out : isIn rest f ≡ false
-        f-out = rw is-rest (without-clears cover f inside is-long (passing .least .member inside))
-
+      module _ (told : due ≡ Missing) {next : ℕ} (least : LeastIn rest next) where
         -- the next member comes later
         pub passing-further : f < next
         passing-further =
             ⊎-elim (λ (h : ltb f next ≡ true). ltb-true f next h)
             (λ (h : ltb f next ≡ false).
             let upto = ltb-false f next h in
-            let in-rest = least .member (omega arith) in
-            ⊎-elim
-            (λ (e : eqb next f ≡ true).
-            absurd (false≢true (sym f-out ∙ (ap (isIn rest) (sym (eqb-true next f e)) ∙ in-rest))))
-            (λ (e : eqb next f ≡ false).
-            let apart = eqb-false next f e in
-            absurd (false≢true (sym (passing .least .before next (omega (arith, apart))) ∙ (sym (other-in next apart) ∙ in-rest))))
-            (decided (eqb next f)))
+            absurd (false≢true (sym (out-to next (omega arith)) ∙ least .member (omega arith))))
             (decided (ltb f next))
 
         pub passing-turn : Passing cover₀ rest next
         passing-turn =
             let further = passing-further in
             record {
-              long = ap length is-rest ∙ (without-long cover f ∙ passing .long);
-              covers =
-                  λ r good.
-                  other-in (r .formula) (λ same. none-due f is-due told r same good) ∙ passing .covers r good;
+              long = same-long;
+              covers = λ r good. covers-rest r good (λ same. none-due f is-due told r same good);
               least = least;
               after = λ i h. other-in i (λ e. omega arith) ∙ passing .after i (omega arith);
               beyond = λ i h. other-in i (λ e. omega arith) ∙ passing .beyond i h;
@@ -256,7 +259,7 @@ module _ (t : List ℕ) (n : ℕ) (marks : List ℕ) where
         record {
           is-next = rw (to ∙ scan-over t n marks n (omega arith));
           long = passing .long;
-          covers = passing .covers;
+          covers = λ r e. absurd (let z : _≡_ {A = ℕ} 0 1 = cc in omega arith);
           taken = λ i h. passing .least .before i (omega arith);
           stays = passing .beyond;
         }

@@ -14,6 +14,10 @@ use Rattle.cover.specs.Members.{isIn, withNumber}
 abbrev pub Covers : List ℕ → ℕ → List ℕ → List ℕ → Type 0
 Covers t n marks cover = (r : Record) → goodIn t n marks r ≡ true → isIn cover (r .formula) ≡ true
 
+-- the same but for one formula
+abbrev pub CoversBut : List ℕ → ℕ → List ℕ → List ℕ → ℕ → Type 0
+CoversBut t n marks cover f = (r : Record) → goodIn t n marks r ≡ true → (r .formula ≡ f → ⊥) → isIn cover (r .formula) ≡ true
+
 -- the set with the formula of a record, of each of a row of records, that is good now
 unfoldable pub wanted : List ℕ → ℕ → List ℕ → List ℕ → Record → List ℕ
 wanted t n marks cover r = cond (goodIn t n marks r) (withNumber cover (r .formula)) cover

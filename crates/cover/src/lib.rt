@@ -240,7 +240,7 @@ pub fn begin(table: &[u16], links: &[u16], n: usize, marks: &[u8], cover: &mut [
 }
 
 // The next record after the marked ones: the least member of a covering set that is not recorded and has a way, by its least
-// way. The members before it are taken out.
+// way. It and the members before it are taken out.
 pub fn next_record(table: &[u16], links: &[u16], n: usize, marks: &[u8], cover: &mut [u64]) -> Next
     requires { ⌜ Ready (now table) (now links) (now marks) n × (64 ≤ length (now cover)) × Covers (now table) n (now marks) (now cover) ⌝ }
     ensures { λ r. ⌜ Found (now (table .entry)) n (now (marks .entry)) (now (cover .entry)) r (now (cover .exit)) ⌝ }
@@ -248,10 +248,10 @@ pub fn next_record(table: &[u16], links: &[u16], n: usize, marks: &[u8], cover: 
     let mut f = least(cover);
     while f < n {
         let due = ways::due_way(table, links, marks, n, f);
+        remove(cover, f);
         if let Least::By(way) = due {
             return Next::Due(Record { formula: f, way });
         }
-        remove(cover, f);
         f = least(cover);
     }
     Next::Finished

@@ -1,4 +1,4 @@
--- The covering set while the journal grows: it covers when it is filled, after each search and after each record.
+-- The covering set while the journal grows: it covers when it is filled, and after each record.
 -- Assumes nothing.
 use Prim.Native.Nat.{ℕ, _≤_, _<_}
 use mathlib.Core.Path.{_≡_, ap}
@@ -6,9 +6,7 @@ use mathlib.Core.List.{List}
 use native.Mathlib.Omega.{arith}
 use lib.ListN.{length, set}
 use Rattle.links.specs.Chains.{Ready}
-use Rattle.cover.specs.declared.Next.{Next}
-use Rattle.cover.specs.Touched.{Covers, wantedAll, touching, takingAll}
-use Rattle.cover.specs.Found.{Found}
+use Rattle.cover.specs.Touched.{Covers, CoversBut, wantedAll, touching, takingAll}
 use Rattle.cover.proofs.Wanting.{all-long}
 use Rattle.cover.proofs.Covered.{covers-filled, covers-touched}
 
@@ -24,20 +22,12 @@ module _ {t links marks : List ℕ} {n : ℕ} (ready : Ready t links marks n) (c
       let size = ap length e in
       record { long = omega arith; covers = covers-filled t n marks cover (ready .few) (omega arith) e }
 
-  pub covering-touched : (f : ℕ) → f < n → Covering t n marks cover → after ≡ wantedAll t n (set marks f 1) cover (touching t n f)
-      → Covering t n (set marks f 1) after
-  covering-touched f low covering e =
+  pub covering-touched : (f : ℕ) → f < n → length cover ≡ 64 → CoversBut t n marks cover f
+      → after ≡ wantedAll t n (set marks f 1) cover (touching t n f) → Covering t n (set marks f 1) after
+  covering-touched f low long covers e =
       let same = all-long t n (set marks f 1) (touching t n f) cover in
       let size = ap length e in
-      let long = covering .long in
       record {
         long = omega arith;
-        covers = covers-touched t n marks f low (ready .marks-long) cover (ready .few) (omega arith) (covering .covers) e;
+        covers = covers-touched t n marks f low (ready .marks-long) cover (ready .few) (omega arith) covers e;
       }
-
-pub covering-found : {t : List ℕ} {n : ℕ} {marks cover after : List ℕ} {next : Next} → Covering t n marks cover
-    → Found t n marks cover next after → Covering t n marks after
-covering-found covering found =
-    let long = covering .long in
-    let same = found .long in
-    record { long = omega arith; covers = found .covers }

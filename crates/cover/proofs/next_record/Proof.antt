@@ -22,27 +22,28 @@ loop-holds c = passing-begins _ _ _ _ (c .before .before .before .before .before
 due-way-requires : tie.Need-due-way-requires Inv-loop μ-loop
 due-way-requires c κs = (c .before .before .before .before .before .before .before .before .pre .0, c .loop-test .taken)
 
+remove-requires : tie.Need-remove-requires Inv-loop μ-loop
+remove-requires c κs =
+    let inv = c .before .before .before .loop .inv in
+    let few = c .before .before .before .before .before .before .before .before .before .before .pre .0 .few in
+    let low = c .before .before .loop-test .taken in
+    (omega arith, search needs, inv .least .member (omega arith))
+
 enum-known-due : tie.Need-enum-known-due Inv-loop μ-loop
 enum-known-due c = search needs
 
 same-length : tie.Need-same-length Inv-loop μ-loop
-same-length c = c .before .before .before .before .before .loop .inv .long
+same-length c = search needs
 
 returns : tie.Need-returns Inv-loop μ-loop
 returns c =
-    let found = c .before .before .before in
-    passing-found _ _ _ (found .before .before .loop .inv) (found .before .loop-test .taken) (found .due-way .ensures) (c .before .due .given .1)
+    let turn = c .before .before .before .before .before .before .before in
+    let start = turn .before .before .before .before .before .before .before .before .before in
+    passing-found _ _ _ (turn .before .before .loop .inv) (turn .before .loop-test .taken) (turn .due-way .ensures) (start .pre .0 .few)
+    (start .pre .1) (c .before .before .before .before .before .remove .ensures) (c .before .due .given .1)
 
 enum-told : tie.Need-enum-told Inv-loop μ-loop
 enum-told c = search needs
-
-remove-requires : tie.Need-remove-requires Inv-loop μ-loop
-remove-requires c κs =
-    let inv = c .before .before .before .before .before .loop .inv in
-    let start = c .before .before .before .before .before .before .before .before .before .before .before .before in
-    let few = start .pre .0 .few in
-    let low = c .before .before .before .before .loop-test .taken in
-    (omega arith, search needs, inv .least .member (omega arith))
 
 least-requires-2 : tie.Need-least-requires-2 Inv-loop μ-loop
 least-requires-2 c κs = search needs
@@ -54,7 +55,7 @@ loop-less c =
     omega (
       arith,
       passing-further _ _ _ (turn .before .before .loop .inv) (turn .before .loop-test .taken) (turn .due-way .ensures) (start .pre .0 .few)
-          (start .pre .1) (c .before .before .before .before .before .before .enum-told .given .1) (c .before .before .before .before .remove .ensures) (c .least2 .ensures),
+          (start .pre .1) (c .before .before .before .before .before .before .remove .ensures) (c .before .before .enum-told .given .1) (c .least2 .ensures),
     )
 
 loop-again : tie.Need-loop-again Inv-loop μ-loop
@@ -62,7 +63,7 @@ loop-again c =
     let turn = c .before .before .before .before .before .before .before .before in
     let start = turn .before .before .before .before .before .before .before .before .before in
     passing-turn _ _ _ (turn .before .before .loop .inv) (turn .before .loop-test .taken) (turn .due-way .ensures) (start .pre .0 .few)
-    (start .pre .1) (c .before .before .before .before .before .before .enum-told .given .1) (c .before .before .before .before .remove .ensures) (c .least2 .ensures)
+    (start .pre .1) (c .before .before .before .before .before .before .remove .ensures) (c .before .before .enum-told .given .1) (c .least2 .ensures)
 
 same-length-2 : tie.Need-same-length-2 Inv-loop μ-loop
 same-length-2 c = c .before .loop .inv .long
@@ -79,11 +80,11 @@ next-record-spec =
     least-requires
     loop-holds
     due-way-requires
+    remove-requires
     enum-known-due
     same-length
     returns
     enum-told
-    remove-requires
     least-requires-2
     loop-less
     loop-again

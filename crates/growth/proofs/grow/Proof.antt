@@ -2,9 +2,9 @@
 -- and the set covers. The measure is what is left of the limit.
 -- Assumes nothing.
 use Prim.Native.Nat.{_-_}
-use mathlib.Core.Path.{sym}
+use mathlib.Core.Path.{sym, _∙_}
 use lib.ListN.{length-take, length-drop, length-set}
-use Rattle.growth.proofs.Covering.{Covering, covering-filled, covering-found, covering-touched}
+use Rattle.growth.proofs.Covering.{Covering, covering-filled, covering-touched}
 use Rattle.growth.proofs.Growing.{Growing, ready-marked, begin, next-listed, mark-place, record-room, turn, none-left, limit-reached}
 use borrow.Author.Needs.{needs}
 use native.Mathlib.Omega.{arith}
@@ -86,14 +86,14 @@ slice-write-marks c = mark-place (c .before .before .before .before .before .bef
 slice-aggregate-touch : tie.Need-slice-aggregate-touch Inv-loop μ-loop
 slice-aggregate-touch c =
     let found = c .before .before .before .before .before .before .before .before .before .before .before in
-    sym (covering-found (found .before .before .before .loop .inv .1) (found .next-record .ensures) .long)
+    sym (found .next-record .ensures .long ∙ found .before .before .before .loop .inv .1 .long)
 
 touch-requires : tie.Need-touch-requires Inv-loop μ-loop
 touch-requires c κs =
     let found = c .before .before .before .before .before .before .before .before .before .before .before in
     let inv = found .before .before .before .loop .inv in (
       ready-marked (inv .0 .ready) (simp length-set),
-      omega (arith, covering-found (inv .1) (found .next-record .ensures) .long),
+      omega (arith, inv .1 .long, found .next-record .ensures .long),
       next-listed (inv .0) (found .next-record .ensures .is-next) _ (c .before .before .before .before .before .before .before .before .r .given .1),
     )
 
@@ -110,7 +110,8 @@ loop-again c =
     let answer = found .next-record .ensures in
     let told = c .before .before .before .before .before .before .before .before .before .before .r .given .1 in (
       turn (inv .0) (answer .is-next) _ told (c .before .before .before .before .before .before .before .before .if1 .left) (c .before .before .before .before .before .before .encode .ensures),
-      covering-touched (inv .0 .ready) _ _ (next-listed (inv .0) (answer .is-next) _ told) (covering-found (inv .1) answer) (c .before .touch .ensures),
+      covering-touched (inv .0 .ready) _ _ (next-listed (inv .0) (answer .is-next) _ told) (answer .long ∙ inv .1 .long) (answer .covers _ told)
+          (c .before .touch .ensures),
     )
 
 pub grow-spec : {M : Type 1} → statement M
