@@ -1,10 +1,9 @@
 -- The bits of a word: what setting one, flipping one and counting the zeros below the lowest one do to them.
 -- Assumes nothing.
-use Prim.Native.Nat.{ℕ, zero, suc, _+_, _*_, _/_, _%_, _^_, _≤_, _<_}
-use mathlib.Core.Path.{_≡_, refl, sym, _∙_, ap, subst}
-use mathlib.Core.Logic.{⊎-elim}
-use mathlib.Core.Bool.{Bool, true, false}
-use native.Mathlib.Nat.{one-mul, add-zero}
+use Prim.Native.Nat.{ℕ, zero, suc, _*_, _/_, _%_, _^_, _<_}
+use mathlib.Core.Path.{_≡_, refl, sym, _∙_, ap}
+use mathlib.Core.Bool.{true, false}
+use native.Mathlib.Nat.{one-mul}
 use native.Mathlib.Omega.{arith}
 use lib.Dec.{eqb, lit<}
 use lib.Pow.{shl-exact}
@@ -17,10 +16,10 @@ use Rattle.cover.specs.Members.{hasBit}
 pub one-shifted : (k : ℕ) → k < 64 → (1 * 2 ^ k) % 2 ^ 64 ≡ 2 ^ k
 one-shifted k h = shl-exact {a = 1} 1 k 64 (lit< tt) (omega arith) ∙ one-mul (2 ^ k)
 
-power-half : (k : ℕ) → 2 ^ suc k / 2 ≡ 2 ^ k
+pub power-half : (k : ℕ) → 2 ^ suc k / 2 ≡ 2 ^ k
 power-half k = ap (λ (x : ℕ). x / 2) (sym (one-mul (2 ^ suc k))) ∙ (shifted-half 1 k ∙ one-mul (2 ^ k))
 
-power-even : (k : ℕ) → 2 ^ suc k % 2 ≡ 0
+pub power-even : (k : ℕ) → 2 ^ suc k % 2 ≡ 0
 power-even k = ap (λ (x : ℕ). x % 2) (sym (one-mul (2 ^ suc k))) ∙ shifted-even 1 k
 
 -- the rest of a word, and its lowest bit, with a bit set

@@ -1,18 +1,17 @@
 -- The set covers: once it is filled, after a formula is recorded and touched, and after a member without a way is taken out.
 -- The next record is found in it.
 -- Assumes nothing.
-use Prim.Native.Nat.{ℕ, zero, suc, _+_, _-_, _≤_, _<_}
+use Prim.Native.Nat.{ℕ, zero, suc, _≤_, _<_}
 use mathlib.Core.Path.{_≡_, refl, sym, _∙_, ap, subst}
 use mathlib.Core.Logic.{_⊎_, inl, inr, ⊎-elim}
 use mathlib.Core.Bool.{Bool, true, false, _&&_, not, false≢true}
-use mathlib.Core.Option.{none}
 use mathlib.Core.List.{List, List·Memᴰ}
 use native.Mathlib.Numerals.{add-one}
 use native.Mathlib.Omega.{arith}
 use lib.ListN.{length, getD, set}
 use lib.Seq.{getD-set-same, getD-set-other}
 use lib.Dec.{ltb, eqb}
-use borrow.Author.Tests.{eqb-true, eqb-false, eq-eqb, lt-ltb, ltb-true, ltb-false, not-true}
+use borrow.Author.Tests.{eqb-true, eqb-false, eq-eqb, lt-ltb, ltb-true, ltb-false}
 use Rattle.infon.specs.declared.Way.{Way}
 use Rattle.infon.specs.declared.Way.the-variants.{Hypothesis, Given, Weaken, Left, Right, Both, Apply, Attach}
 use Rattle.infon.specs.declared.Record.{Record}
@@ -28,7 +27,6 @@ use Rattle.ways.specs.declared.Least.the-variants.{By, Missing}
 use Rattle.ways.specs.Search.{leastOf, dueWayIn, nextIn}
 use Rattle.ways.proofs.Firsts.{all-fail, not-passed}
 use Rattle.ways.proofs.Scan.{answer-missing, nextFrom, scan-begins, scan-found, scan-goes-on, scan-over}
-use Rattle.cover.specs.declared.Next.{Next}
 use Rattle.cover.specs.declared.Next.the-variants.{Due, Finished}
 use Rattle.cover.specs.Members.{isIn, withoutMember, LeastIn}
 use Rattle.cover.specs.Touched.{Covers, CoversBut, wantedAll, touching, takingAll}

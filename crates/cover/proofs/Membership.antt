@@ -1,9 +1,9 @@
 -- The set: what putting a number in, taking a member out and looking for the least member do to membership.
 -- Assumes nothing.
-use Prim.Native.Nat.{ℕ, zero, suc, _+_, _*_, _/_, _%_, _^_, _≤_, _<_}
-use mathlib.Core.Path.{_≡_, refl, sym, _∙_, ap, subst}
+use Prim.Native.Nat.{ℕ, _+_, _*_, _/_, _%_, _^_, _≤_, _<_}
+use mathlib.Core.Path.{_≡_, refl, sym, _∙_, ap}
 use mathlib.Core.Logic.{⊎-elim}
-use mathlib.Core.Bool.{Bool, true, false, false≢true}
+use mathlib.Core.Bool.{true, false}
 use mathlib.Core.List.{List}
 use native.Mathlib.Omega.{arith}
 use lib.ListN.{length, getD, set}
@@ -14,7 +14,7 @@ use lib.Count.{trailingZeros}
 use borrow.Author.Tests.{eqb-true, eqb-false}
 use Rattle.infon.proofs.Rows.{decided}
 use Rattle.cover.specs.Members.{hasBit, isIn, withNumber, withoutMember, LeastIn}
-use Rattle.cover.proofs.Bitwise.{one-shifted, or-sets, or-keeps, xor-clears, xor-keeps, zero-has, Lowest, trailing-lowest}
+use Rattle.cover.proofs.Bitwise.{one-shifted, or-sets, or-keeps, xor-clears, xor-keeps, zero-has, trailing-lowest}
 
 module _ (cover : List ℕ) (i : ℕ) (low : i < 4096) (long : 64 ≤ length cover) where
   -- the word of a number that stands in the same word, and in another

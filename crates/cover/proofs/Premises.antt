@@ -4,11 +4,11 @@ use Prim.Native.Nat.{ℕ, zero, suc, _+_, _≤_, _<_}
 use mathlib.Core.Path.{_≡_, refl, sym, _∙_, ap, subst}
 use mathlib.Core.Logic.{⊎-elim}
 use mathlib.Core.Bool.{Bool, true, false, cond, _&&_, not}
-use mathlib.Core.List.{List, [], _∷_, _++_, List·Memᴰ, List·Memᴰ·head, List·Memᴰ·tail, Memᴰ·append-left, Memᴰ·append-right}
+use mathlib.Core.List.{List, [], _++_, List·Memᴰ, List·Memᴰ·head, List·Memᴰ·tail, Memᴰ·append-left, Memᴰ·append-right}
 use mathlib.Core.List
 use native.Mathlib.Omega.{arith}
 use lib.Dec.{ltb, eqb}
-use borrow.Author.Tests.{eqb-true, eqb-false, not-true}
+use borrow.Author.Tests.{eqb-true, eqb-false}
 use Rattle.infon.specs.declared.Way.{Way}
 use Rattle.infon.specs.declared.Way.the-variants.{Hypothesis, Given, Weaken, Left, Right, Both, Apply, Attach}
 use Rattle.infon.specs.declared.Record.{Record}
@@ -17,7 +17,7 @@ use Rattle.table.specs.Table.{cell}
 use Rattle.table.specs.Tests.{givesIn, isMarked, premisesMarked, leadsTo, goodIn}
 use Rattle.table.proofs.Given.{marked-below}
 use Rattle.ways.specs.Search.{isWhole}
-use Rattle.ways.proofs.Leads.{weaken-bottom, whole-part, Parts, both-parts, apply-parts, attach-parts}
+use Rattle.ways.proofs.Leads.{weaken-bottom, whole-part, both-parts, apply-parts, attach-parts}
 use Rattle.cover.specs.Touched.{partsBy, meeting, along, touching, takingIn, takingAll}
 
 -- a record is for a formula by a way

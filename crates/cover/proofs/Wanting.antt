@@ -1,12 +1,12 @@
 -- What is wanted, record by record: the set keeps its members and gains the formula of each good record.
 -- Assumes nothing.
-use Prim.Native.Nat.{ℕ, zero, suc, _+_, _-_, _≤_, _<_}
+use Prim.Native.Nat.{ℕ, _≤_}
 use mathlib.Core.Path.{_≡_, refl, sym, _∙_, ap, subst}
 use mathlib.Core.Logic.{⊎-elim}
 use mathlib.Core.Bool.{Bool, true, false, cond}
 use mathlib.Core.List.{List, [], _∷_, _++_, List·Memᴰ, List·Memᴰ·not-nil, List·Memᴰ·cases-cons}
 use native.Mathlib.Omega.{arith}
-use lib.ListN.{length, set, length-set}
+use lib.ListN.{length, length-set}
 use Rattle.infon.specs.declared.Way.the-variants.{Hypothesis, Given, Weaken, Left, Right, Both, Apply, Attach}
 use Rattle.infon.specs.declared.Record.{Record}
 use Rattle.infon.proofs.Rows.{decided}

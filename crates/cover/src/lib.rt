@@ -11,7 +11,6 @@ ghost use mathlib.Core.Path.{_≡_};
 ghost use mathlib.Core.Bool.{true};
 ghost use Prim.Native.Nat.{_-_, _*_, _≤_, _<_};
 ghost use lib.ListN.{length};
-ghost use Rattle.table.specs.Table.{cell};
 ghost use Rattle.links.specs.Chains.{ChainOf, Ready};
 ghost use Rattle.cover.specs.Members.{isIn, withNumber, withoutMember, LeastIn};
 ghost use Rattle.cover.specs.Found.{Found};
@@ -24,7 +23,7 @@ pub enum Next {
 }
 
 // The numbers of a set, and its words.
-pub const NUMBERS: usize = 4096;
+const NUMBERS: usize = 4096;
 
 pub const WORDS: usize = 64;
 
@@ -43,7 +42,7 @@ fn insert(cover: &mut [u64], i: usize)
 }
 
 // Takes a member out of the set.
-pub fn remove(cover: &mut [u64], i: usize)
+fn remove(cover: &mut [u64], i: usize)
     requires { ⌜ (i < 4096) × (64 ≤ length (now cover)) × (isIn (now cover) i ≡ true) ⌝ }
     ensures { λ _. ⌜ now (cover .exit) ≡ withoutMember (now (cover .entry)) i ⌝ }
 {
@@ -54,7 +53,7 @@ pub fn remove(cover: &mut [u64], i: usize)
 }
 
 // The least member, 4,096 where there is none.
-pub fn least(cover: &[u64]) -> usize
+fn least(cover: &[u64]) -> usize
     requires { ⌜ 64 ≤ length (now cover) ⌝ }
     ensures { λ r. ⌜ LeastIn (now (cover .entry)) r ⌝ }
 {

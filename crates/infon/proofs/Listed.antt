@@ -52,7 +52,7 @@ begins-trans {fs} less further =
 pub begins-keeps : {fs more : List Formula} {x : Formula} → Begins fs more → List·Memᴰ x fs → List·Memᴰ x more
 begins-keeps begins m = rw (begins .joined) (Memᴰ·append-left (begins .rest) m)
 
-begins-shorter : {fs more : List Formula} → Begins fs more → length fs ≤ length more
+pub begins-shorter : {fs more : List Formula} → Begins fs more → length fs ≤ length more
 begins-shorter begins = rw (begins .joined, length-append) (omega arith)
 
 -- `enlist` with one formula, which is listed already or new
@@ -103,7 +103,7 @@ enlist-only fs (first ∷ rest) m =
     (λ late. inr (List·Memᴰ·tail late))
     (enlist-only (enlistOne fs first) rest m)
 
-enlist-append : (fs xs ys : List Formula) → enlist fs (xs ++ ys) ≡ enlist (enlist fs xs) ys
+pub enlist-append : (fs xs ys : List Formula) → enlist fs (xs ++ ys) ≡ enlist (enlist fs xs) ys
 unfolding enlist
 enlist-append fs [] ys = refl
 enlist-append fs (x ∷ xs) ys = enlist-append (enlistOne fs x) xs ys

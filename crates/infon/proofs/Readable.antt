@@ -67,7 +67,7 @@ unfolding spelling isWordByte isNameByte bytes lacks every lineFeed space
 spelling-lacks-lineFeed x h = joined-lacks lineFeed (words x) refl (words-lack lineFeed x refl h)
 
 -- From the formula to its words and back.
-unlike-name : (a word : List ℕ) → isName a ≡ true → isName word ≡ false → alike a word ≡ false
+pub unlike-name : (a word : List ℕ) → isName a ≡ true → isName word ≡ false → alike a word ≡ false
 unlike-name a word named unnamed = by-test (decided (alike a word))
   where
     by-test : (alike a word ≡ true) ⊎ (alike a word ≡ false) → alike a word ≡ false

@@ -14,14 +14,15 @@ use Rattle.infon.specs.declared.Record.{Record}
 use Rattle.infon.specs.Journal.{recordBytes, decoded, wholeRecords, followed}
 use Rattle.table.specs.Tests.{goodIn}
 use Rattle.table.proofs.Given.{good-below}
-use Rattle.journal.specs.declared.Decoded.{Decoded}
-use Rattle.journal.specs.declared.Decoded.the-variants as Reads
-use Rattle.journal.specs.Decoded.{toDecoded}
+use Rattle.reader.specs.declared.Decoded.{Decoded}
+use Rattle.reader.specs.declared.Decoded.the-variants as Reads
+use Rattle.reader.specs.Decoded.{toDecoded, recordAt}
+use Rattle.reader.proofs.Reading.{nine-left}
 use Rattle.journal.specs.Kept.{markAll, onlyGoodIn, keptBy, keptIn, Keeps}
 
--- the nine bytes of the record at a place, as the code takes them
+-- the nine bytes of a record
 abbrev rowAt : List ℕ → ℕ → List ℕ
-rowAt journal kept = take (kept * 9 + 9 - kept * 9) (drop (kept * 9) journal)
+rowAt journal kept = take 9 (drop (kept * 9) journal)
 
 -- the whole records from a place on
 unfoldable pub rowsFrom : List ℕ → ℕ → ℕ → List (List ℕ)
@@ -33,8 +34,7 @@ unfolding rowsFrom wholeRecords recordBytes
 rows-more journal used kept h =
     let left : used / 9 - kept ≡ suc (used / 9 - (kept + 1)) = omega arith in
     let next : kept * 9 + 9 ≡ (kept + 1) * 9 = omega arith in
-    let nine : kept * 9 + 9 - kept * 9 ≡ 9 = omega arith in
-    rw (left, nine, drop-drop 9 (kept * 9) journal, next)
+    rw (left, drop-drop 9 (kept * 9) journal, next)
 
 rows-over : (journal : List ℕ) (used kept : ℕ) → used / 9 ≤ kept → rowsFrom journal used kept ≡ []
 unfolding rowsFrom wholeRecords
@@ -42,6 +42,7 @@ rows-over journal used kept h = let none-left : used / 9 - kept ≡ 0 = omega ar
 
 -- What is kept of the whole is what is kept so far and what is kept of the rest.
 pub record Going (t : List ℕ) (n : ℕ) (journal : List ℕ) (used : ℕ) (marks₀ : List ℕ) (kept : ℕ) (marks : List ℕ) : Type 0 where
+  pub inside : used ≤ length journal
   pub long : length marks ≡ length marks₀
   pub counts : length (keptIn t n marks₀ journal used) ≡ kept + length (keptBy t n marks (rowsFrom journal used kept))
   pub marked : markAll marks₀ (keptIn t n marks₀ journal used) ≡ markAll marks (keptBy t n marks (rowsFrom journal used kept))
@@ -77,22 +78,27 @@ unfolding keptBy
 kept-over t n marks = refl
 
 module _ (t : List ℕ) (n : ℕ) (journal : List ℕ) (used : ℕ) (marks₀ : List ℕ) where
-  pub begin : Going t n journal used marks₀ 0 marks₀
+  pub begin : used ≤ length journal → Going t n journal used marks₀ 0 marks₀
   unfolding rowsFrom keptIn recordBytes
-  begin = let all : used / 9 - 0 ≡ used / 9 = omega arith in record { long = refl; counts = rw (all, zero-add); marked = rw all }
+  begin inside = let all : used / 9 - 0 ≡ used / 9 = omega arith in record { inside = inside; long = refl; counts = rw (all, zero-add); marked = rw all }
 
   module _ {kept : ℕ} {marks : List ℕ} (going : Going t n journal used marks₀ kept marks) where
-    pub turn : (r : Record) {read : Decoded} {good : Bool} → kept < used / 9 → read ≡ toDecoded (decoded (rowAt journal kept))
+    -- the reader finds what the nine bytes spell
+    row-read : kept < used / 9 → recordAt journal (kept * 9) ≡ decoded (rowAt journal kept)
+    row-read h = let inside = going .inside in nine-left journal (kept * 9) (omega arith)
+
+    pub turn : (r : Record) {read : Decoded} {good : Bool} → kept < used / 9 → read ≡ toDecoded (recordAt journal (kept * 9))
         → read ≡ Reads.Record r → good ≡ goodIn t n marks r → not good ≡ false
         → Going t n journal used marks₀ (kept + 1) (set marks (r .formula) 1)
     unfolding markAll
     turn r h reads told tests passed =
-        let row = decoded-record (decoded (rowAt journal kept)) r (sym told ∙ reads) in
+        let row = sym (row-read h) ∙ decoded-record (recordAt journal (kept * 9)) r (sym told ∙ reads) in
         let good : goodIn t n marks r ≡ true = sym tests ∙ not-false _ passed in
         let step = ap (keptBy t n marks) (rows-more journal used kept h) ∙ kept-good t n marks (rowAt journal kept) (rowsFrom journal used (kept + 1)) r row good in
         let size = ap length step in
         let counts = going .counts in
         record {
+          inside = going .inside;
           long = length-set marks (r .formula) 1 ∙ going .long;
           counts = omega arith;
           marked = going .marked ∙ ap (markAll marks) step;
@@ -106,16 +112,16 @@ module _ (t : List ℕ) (n : ℕ) (journal : List ℕ) (used : ℕ) (marks₀ : 
         let counts = going .counts in
         record { counted = omega arith; marked = sym (going .marked ∙ ap (markAll marks) e) }
 
-    pub stop-unread : {read : Decoded} → kept < used / 9 → read ≡ toDecoded (decoded (rowAt journal kept)) → read ≡ Reads.Nothing
+    pub stop-unread : {read : Decoded} → kept < used / 9 → read ≡ toDecoded (recordAt journal (kept * 9)) → read ≡ Reads.Nothing
         → Keeps t n journal used marks₀ kept marks
     stop-unread h reads told =
-        over (ap (keptBy t n marks) (rows-more journal used kept h) ∙ kept-none t n marks (rowAt journal kept) (rowsFrom journal used (kept + 1)) (decoded-nothing (decoded (rowAt journal kept)) (sym told ∙ reads)))
+        over (ap (keptBy t n marks) (rows-more journal used kept h) ∙ kept-none t n marks (rowAt journal kept) (rowsFrom journal used (kept + 1)) (sym (row-read h) ∙ decoded-nothing (recordAt journal (kept * 9)) (sym told ∙ reads)))
 
-    pub stop-bad : (r : Record) {read : Decoded} {good : Bool} → kept < used / 9 → read ≡ toDecoded (decoded (rowAt journal kept))
+    pub stop-bad : (r : Record) {read : Decoded} {good : Bool} → kept < used / 9 → read ≡ toDecoded (recordAt journal (kept * 9))
         → read ≡ Reads.Record r → good ≡ goodIn t n marks r → not good ≡ true → Keeps t n journal used marks₀ kept marks
     stop-bad r h reads told tests failed =
         over (ap (keptBy t n marks) (rows-more journal used kept h)
-        ∙ kept-bad t n marks (rowAt journal kept) (rowsFrom journal used (kept + 1)) r (decoded-record (decoded (rowAt journal kept)) r (sym told ∙ reads)) (sym tests ∙ not-true _ failed))
+        ∙ kept-bad t n marks (rowAt journal kept) (rowsFrom journal used (kept + 1)) r (sym (row-read h) ∙ decoded-record (recordAt journal (kept * 9)) r (sym told ∙ reads)) (sym tests ∙ not-true _ failed))
 
     pub stop-over : used / 9 ≤ kept → Keeps t n journal used marks₀ kept marks
     stop-over h = over (ap (keptBy t n marks) (rows-over journal used kept h) ∙ kept-over t n marks)

@@ -1,4 +1,3 @@
-pub mod Reading
 pub mod Writing
 pub mod Keeping
 pub mod Holding

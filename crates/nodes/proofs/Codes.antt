@@ -105,7 +105,7 @@ code4-roots (e ∷ rest) = rw (zero-add (depth (formulaIn (e .sentence))), code4
 
 -- a test that a smaller number passes need not be made before
 module _ (most code place : ℕ) (later : Verdict) where
-  when-less : (low high : ℕ) → low ≤ high
+  pub when-less : (low high : ℕ) → low ≤ high
       → andThen (when (ltb most high) code place) later ≡ andThen (when (ltb most low) code place) (andThen (when (ltb most high) code place) later)
   unfolding when andThen
   when-less low high h =

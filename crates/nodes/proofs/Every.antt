@@ -3,11 +3,11 @@
 -- Assumes nothing.
 use Prim.Native.Nat.{ℕ, zero, suc, _<_, _≤_}
 use native.Mathlib.Omega.{arith}
-use mathlib.Core.Path.{_≡_, refl, sym, subst}
+use mathlib.Core.Path.{_≡_, refl, sym, ap, subst}
 use mathlib.Core.Logic.{_⊎_, inl, inr}
 use mathlib.Core.Bool.{true}
 use mathlib.Core.List.{List, [], _∷_, _++_, List·Memᴰ, List·Memᴰ·head, List·Memᴰ·tail}
-use lib.ListN.{drop}
+use lib.ListN.{length, drop}
 use Rattle.infon.specs.Formula.{Quotation, Formula, True, name, and, implies, quoted, isName, isNamed}
 use Rattle.infon.specs.Policy.{Entry, entriesOf, entriesFrom, linesOf, formulaIn}
 use Rattle.infon.proofs.Rows.{and-true}
@@ -140,3 +140,22 @@ roots-outermost (e ∷ rest) = ((refl, refl), roots-outermost rest)
 
 pub node-linked : (entries : List Entry) (i : ℕ) → i < countNodes (roots entries) → Linked (roots entries) i (nodeAt (roots entries) i)
 node-linked entries = nodes-linked (roots entries) (roots-outermost entries)
+
+-- Depth: there are no more quotations above a node than nodes before it.
+abbrev Shallow : ℕ → Node → Type 0
+Shallow i n = length (n .pre) ≤ i
+
+kids-shallow : (i : ℕ) (n : Node) (x : Formula) → Shallow i n → Each (Shallow (suc i)) (kidsOf i n x)
+unfolding kidsOf part inner
+kids-shallow i n True h = tt
+kids-shallow i n (name a) h = tt
+kids-shallow i n (and x y) h = (omega arith, (omega arith, tt))
+kids-shallow i n (implies x y) h = (omega arith, (omega arith, tt))
+kids-shallow i n (quoted q x) h = (omega arith, tt)
+
+pub node-shallow : (entries : List Entry) (i : ℕ) → i < countNodes (roots entries) → length (nodeAt (roots entries) i .pre) ≤ i
+unfolding kids
+node-shallow entries =
+    every-node Shallow (roots entries) (λ i n h. omega arith)
+    (λ i h shallow. kids-shallow i (nodeAt (roots entries) i) (nodeAt (roots entries) i .what) shallow)
+    (each-map Outermost (Shallow 0) (roots entries) (λ n top. omega (arith, ap length (top .0))) (roots-outermost entries))

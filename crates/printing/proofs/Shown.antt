@@ -17,7 +17,7 @@ use Rattle.infon.specs.Listing.{listOf}
 use Rattle.infon.specs.Journal.{keptOf, grown}
 use Rattle.infon.specs.Run.{Outcome, answerByte, answersOf, written, success, refusal, run}
 use Rattle.infon.proofs.Cuts.{run-cases}
-use Rattle.printing.specs.Printed.{digitsOf, decimalOf, wordOf, lineOf, printedFrom, printedAnswers, printedRefusal, noAnswer, answeredIn, printedRun}
+use Rattle.printing.specs.Printed.{digitsOf, decimalOf, wordOf, lineOf, printedFrom, printedAnswers, printedRefusal, noAnswer, answeredIn, printedRun, printedOf}
 
 -- "Case 2 prints, whole: .."
 pub case-2-printed : printedAnswers (map answerByte (Yes ∷ Yes ∷ No ∷ [])) ≡ bytes "1 yes\n2 yes\n3 no\n"
@@ -62,10 +62,6 @@ answered-all n answers =
     ap printedAnswers
     (take-at (map answerByte answers) _ _
     (sym (answered-front answers (drop (0 + length (map answerByte answers)) (replicate n noAnswer)) (filled-left (0 + length (map answerByte answers)) n))))
-
--- what is printed of what a call leaves
-unfoldable pub printedOf : Outcome → List ℕ
-printedOf o = printedRun (o .report .code) (o .report .place) (o .answers)
 
 -- A run that is refused prints its code and place.
 pub refused-printed : (o : Outcome) → 1 ≤ o .report .code → printedOf o ≡ printedRefusal (o .report .code) (o .report .place)

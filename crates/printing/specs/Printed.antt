@@ -6,6 +6,7 @@ use lib.ListN.{take}
 use lib.Dec.{eqb, ltb}
 use Rattle.bytes.specs.Bytes.{indexOf}
 use Rattle.infon.specs.Bytes.{bytes, space, lineFeed}
+use Rattle.infon.specs.Run.{Outcome}
 
 -- the decimal digits of a number, the most significant first and no zero in front, where it has at most so many
 unfoldable pub digitsOf : ℕ → ℕ → List ℕ
@@ -52,3 +53,7 @@ answeredIn answers = indexOf noAnswer answers
 unfoldable pub printedRun : ℕ → ℕ → List ℕ → List ℕ
 printedRun code place answers =
     cond (eqb code 0) (printedAnswers (take (answeredIn answers) answers)) (printedRefusal code place)
+
+-- the same of all that a call of the run leaves
+unfoldable pub printedOf : Outcome → List ℕ
+printedOf outcome = printedRun (outcome .report .code) (outcome .report .place) (outcome .answers)

@@ -2,3 +2,4 @@ pub mod Answering
 pub mod Outcomes
 pub mod Working
 pub mod Proceeding
+pub mod Accepting

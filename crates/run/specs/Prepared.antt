@@ -6,10 +6,13 @@ use mathlib.Core.List.{List, map, List·Memᴰ}
 use lib.ListN.{length, take}
 use Rattle.infon.specs.declared.Report.{Report}
 use Rattle.infon.specs.Formula.{Formula}
-use Rattle.infon.specs.Policy.{entriesOf, hypothesesOf, queriesOf, passed}
+use Rattle.infon.specs.Policy.{entriesOf, hypothesesOf, queriesOf, Verdict, passed}
+use Rattle.infon.specs.Policy.{refused as refused·}
 use Rattle.infon.specs.Listing.{isListed, listOf}
 use Rattle.infon.specs.Journal.{recordBytes, keptOf, grown}
 use Rattle.infon.specs.Run.{fileVerdict, Outcome, success, run}
+use Rattle.run.specs.declared.Stage.{Stage}
+use Rattle.run.specs.declared.Stage.the-variants as StageCase
 use Rattle.table.specs.Table.{numberIn, Tabled}
 
 -- The table holds a list of n formulas with its hypotheses, and the numbers of the queries stand in front of their row.
@@ -60,3 +63,10 @@ pub record Acceptable (t : List ℕ) (n : ℕ) (numbers : List ℕ) (asked : ℕ
 abbrev pub Proceeds : List ℕ → ℕ → List ℕ → ℕ → List ℕ → ℕ → ℕ → List ℕ → Report → List ℕ → List ℕ → Type 0
 Proceeds t n numbers asked journal used limit answers report journalAfter answersAfter =
     (file : List ℕ) → PreparedFor file t n numbers asked → left report journalAfter answersAfter ≡ run file journal used limit answers
+
+-- What comes of the file alone, by its verdict: the list is prepared, or the code is told.
+abbrev pub Accepts : Verdict → List ℕ → List ℕ → List ℕ → Stage → Type 0
+Accepts passed file t numbers stage =
+    (stage ≡ StageCase.Prepared (length (listOf (entriesOf file))) (length (queriesOf (entriesOf file))))
+    × PreparedFor file t (length (listOf (entriesOf file))) numbers (length (queriesOf (entriesOf file)))
+Accepts (refused· code place) file t numbers stage = stage ≡ StageCase.Refused code place

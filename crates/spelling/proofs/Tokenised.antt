@@ -8,7 +8,7 @@ use mathlib.Core.Bool.{Bool, true, false, cond, _||_, not, true≢false, false�
 use mathlib.Core.Option.{Option, none, some}
 use mathlib.Core.List.{List, [], _∷_, _++_, append-nil, cons≢nil}
 use lib.ListN.{length, getD, take, drop, take-append-drop}
-use lib.Seq.{drop-drop}
+use lib.Seq.{drop-drop, take-append-seam}
 use lib.Dec.{eqb}
 use borrow.Author.Tests.{eqb-true}
 use Rattle.infon.specs.Bytes.{space, lineFeed, every}
@@ -20,7 +20,7 @@ use Rattle.infon.proofs.Readable.{spelling-read, spelling-lacks-lineFeed}
 use Rattle.spelling.specs.Token.{isBreak, wordLength, wordAt}
 use Rattle.spelling.proofs.Breaks.{wordAt-length}
 
-or-false-both : (a b : Bool) → a || b ≡ false → (a ≡ false) × (b ≡ false)
+pub or-false-both : (a b : Bool) → a || b ≡ false → (a ≡ false) × (b ≡ false)
 or-false-both true b h = absurd (true≢false h)
 or-false-both false b h = (refl, h)
 
@@ -106,3 +106,19 @@ first-token text at = by-rest (drop (at + length (wordAt text at)) text) refl
         ))
         (λ feed. inr (feed-no-formula text (at + length (wordAt text at)) rest (e ∙ ap (λ c. c ∷ rest) feed)))
         (break-cases b (token-stops text at b rest e))
+
+-- a word without a break, with a break behind it, is the token that begins there
+word-cut : (word : List ℕ) (b : ℕ) (rest : List ℕ) → lacks space word ≡ true → lacks lineFeed word ≡ true → isBreak b ≡ true
+    → wordLength (word ++ (b ∷ rest)) ≡ length word
+unfolding wordLength isBreak
+word-cut [] b rest s f e = rw e
+word-cut (a ∷ word) b rest s f e =
+    let gap = lacks-cons space a word s in
+    let feed = lacks-cons lineFeed a word f in
+    rw (gap .0, feed .0) (ap suc (word-cut word b rest (gap .1) (feed .1) e))
+
+pub token-cut : (text : List ℕ) (at : ℕ) (word : List ℕ) (b : ℕ) (rest : List ℕ) → drop at text ≡ word ++ (b ∷ rest)
+    → lacks space word ≡ true → lacks lineFeed word ≡ true → isBreak b ≡ true → wordAt text at ≡ word
+unfolding wordAt
+token-cut text at word b rest h s f e =
+    rw (h, word-cut word b rest s f e) (take-append-seam word (b ∷ rest))

@@ -39,17 +39,19 @@ pub enum Onward {
     Stuck,
 }
 
+const LONGEST_NAME: usize = 16;
+
 // A character of a name: a to z, 0 to 9 and hyphen.
 fn is_name_byte(b: u8) -> bool
     ensures { λ r. ⌜ r ≡ isNameByte b ⌝ }
 {
-    if 97 <= b {
-        return b <= 122;
+    if b'a' <= b {
+        return b <= b'z';
     }
-    if 48 <= b {
-        return b <= 57;
+    if b'0' <= b {
+        return b <= b'9';
     }
-    b == 45
+    b == b'-'
 }
 
 // A name is 1 to 16 such characters.
@@ -59,7 +61,7 @@ pub fn is_name(word: &[u8]) -> bool
     if word.len() == 0 {
         return false;
     }
-    if 16 < word.len() {
+    if LONGEST_NAME < word.len() {
         return false;
     }
     let mut i = 0;
@@ -103,10 +105,10 @@ fn is_letter(word: &[u8], letter: u8) -> bool
 fn is_break(b: u8) -> bool
     ensures { λ r. ⌜ r ≡ isBreak b ⌝ }
 {
-    if b == 32 {
+    if b == b' ' {
         return true;
     }
-    b == 10
+    b == b'\n'
 }
 
 // The place behind the token that begins at `at`.
@@ -141,7 +143,7 @@ fn quotation(text: &[u8], space: usize, said: bool) -> Parsed
     if space == text.len() {
         return Parsed::Bad;
     }
-    if text[space] != 32 {
+    if text[space] != b' ' {
         return Parsed::Bad;
     }
     let start = space + 1;
@@ -239,7 +241,7 @@ pub fn is_formula(text: &[u8]) -> bool
         if end == text.len() {
             return needed == 0;
         }
-        if text[end] != 32 {
+        if text[end] != b' ' {
             return false;
         }
         at = end + 1;

@@ -1,3 +1,4 @@
 pub mod Numbers
 pub mod Weakened
 pub mod Given
+pub mod Growing

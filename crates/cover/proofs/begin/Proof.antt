@@ -3,7 +3,6 @@
 use Prim.Native.Nat.{_-_}
 use Rattle.cover.proofs.Chained.{Taking, taking-begins, taking-turn, taking-over}
 use borrow.Author.Needs.{needs}
-use native.Mathlib.Omega.{arith}
 use Rattle.cover.proofs.begin.Statement.{statement}
 use Rattle.cover.proofs.begin.Tie as tie
 

@@ -1,7 +1,6 @@
 -- `cover::meet` meets its contract: the four records, one after the other.
 -- Assumes nothing.
 use Rattle.cover.proofs.Wanting.{meeting-wanted}
-use native.Mathlib.Omega.{arith}
 use borrow.Author.Needs.{needs}
 use Rattle.cover.proofs.meet.Statement.{statement}
 use Rattle.cover.proofs.meet.Tie as tie

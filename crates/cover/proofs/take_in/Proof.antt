@@ -1,7 +1,6 @@
 -- `cover::take_in` meets its contract: the records without a premise, and then those of a recorded one.
 -- Assumes nothing.
 use Rattle.cover.proofs.Wanting.{taken-marked, taken-open}
-use native.Mathlib.Omega.{arith}
 use borrow.Author.Needs.{needs}
 use Rattle.cover.proofs.take_in.Statement.{statement}
 use Rattle.cover.proofs.take_in.Tie as tie

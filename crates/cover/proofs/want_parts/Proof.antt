@@ -1,7 +1,6 @@
 -- `cover::want_parts` meets its contract: the two records by rules 4 and 5, one after the other.
 -- Assumes nothing.
 use Rattle.cover.proofs.Wanting.{parts-wanted}
-use native.Mathlib.Omega.{arith}
 use borrow.Author.Needs.{needs}
 use Rattle.cover.proofs.want_parts.Statement.{statement}
 use Rattle.cover.proofs.want_parts.Tie as tie

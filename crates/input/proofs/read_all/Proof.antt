@@ -19,7 +19,7 @@ abbrev μ-loop : tie.MeasureT-loop
 
 -- no more was read than there was room for
 within : (c : tie.Else1 Inv-loop μ-loop) → c .before .before .more .given .0 .0 ≤ length (c .before .before .before .before .before .before .read-some .last .1 .0)
-within c = held _ (c .before .before .more .given .0 .0) _ (c .before .before .more .given .1) (c .before .before .before .before .before .before .read-some .ensures)
+within c = (held _ (c .before .before .more .given .0 .0) _ (c .before .before .more .given .1) (c .before .before .before .before .before .before .read-some .ensures)) .0
 
 loop-holds : tie.Need-loop-holds Inv-loop μ-loop
 loop-holds c = omega arith

@@ -2,7 +2,7 @@
 -- Assumes nothing.
 use mathlib.Core.Path.{refl}
 use Rattle.infon.specs.Journal.{ruleOf}
-use Rattle.journal.proofs.Reading.{by-case}
+use Rattle.reader.proofs.Reading.{by-case}
 use borrow.Author.Needs.{needs}
 use Rattle.journal.proofs.rule_of.Statement.{statement}
 use Rattle.journal.proofs.rule_of.Tie as tie

@@ -1,0 +1,3 @@
+pub mod Told
+pub mod Case
+pub mod Finishes

@@ -1,0 +1,35 @@
+// The desk program: reads a policy file from standard input, starts with an empty journal, runs to the end and prints one line
+// per query, or only the refusal. Where the input cannot be read, or the text cannot be written, it says so on standard error.
+use input::Got;
+use libc::STDIN_FILENO;
+use libc::STDOUT_FILENO;
+ghost use Prim.Native.Nat.{_≤_};
+ghost use lib.ListN.{length};
+ghost use Rattle.printing.specs.Placed.{Prints};
+ghost use Rattle.desk.specs.Desk.{deskText};
+
+// Runs a policy file from an empty journal to the end, puts what is to be printed into text, and returns its length.
+fn answer(file: &[u8], text: &mut [u8]) -> usize
+    requires { ⌜ 32768 ≤ length (now text) ⌝ }
+    ensures { λ r. ⌜ Prints (deskText (now (file .entry))) (now (text .entry)) r (now (text .exit)) ⌝ }
+{
+    let mut journal = [0u8; 36864];
+    let mut answers = [255u8; 1024];
+    let report = run::run(file, &mut journal, 0, 4096, &mut answers);
+    printing::print_run(report.code, report.place, &answers, text)
+}
+
+// One byte more than a policy file may have is read, so that a longer one is seen to be too long.
+fn main() {
+    let mut file = [0u8; 32769];
+    let got = input::read_all(STDIN_FILENO, &mut file);
+    let Got::Bytes(n) = got else {
+        os::fail(b"standard input");
+        return;
+    };
+    let mut text = [0u8; 32768];
+    let length = answer(&file[..n], &mut text);
+    if !io::write_all(STDOUT_FILENO, &text[..length]) {
+        os::fail(b"standard output");
+    }
+}

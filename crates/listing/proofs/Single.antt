@@ -1,0 +1,59 @@
+-- The contract of `list` leaves one answer, and one content of both lent buffers.
+-- Assumes nothing.
+use Prim.Native.Nat.{ℕ, _+_, _*_, _/_, _%_, _<_}
+use native.Mathlib.Omega.{arith}
+use mathlib.Core.Path.{_≡_, sym, _∙_, ap}
+use mathlib.Core.Logic.{⊎-elim}
+use mathlib.Core.Bool.{true, false}
+use mathlib.Core.List.{List}
+use lib.ListN.{length, getD}
+use lib.Seq.{ext-getD}
+use lib.Dec.{ltb}
+use borrow.Author.Tests.{ltb-true, ltb-false}
+use Rattle.infon.specs.Policy.{Entry, entriesOf, Verdict, passed, refused}
+use Rattle.infon.specs.Listing.{listOf, code5}
+use Rattle.infon.proofs.Rows.{decided}
+use Rattle.table.specs.Table.{tableRows, tableColumns, cell}
+use Rattle.listing.specs.declared.Listing.{Listing}
+use Rattle.listing.specs.Outcome.{ListReady, Filled, TableAfter, ListedFile}
+
+-- every cell of the table is told
+module _ (es : List Entry) (before one two : List ℕ) (size : length before ≡ tableColumns * tableRows) (first : Filled es before one)
+    (second : Filled es before two) where
+  same-cell : (k i : ℕ) → k < tableColumns → i < tableRows → cell one k i ≡ cell two k i
+  same-cell k i column row =
+      ⊎-elim
+      (λ (listed : ltb i (length (listOf es)) ≡ true).
+      let below = ltb-true i (length (listOf es)) listed in
+      first .holds .cells k i column below ∙ sym (second .holds .cells k i column below))
+      (λ (behind : ltb i (length (listOf es)) ≡ false).
+      let above = ltb-false i (length (listOf es)) behind in
+      first .others k i row above ∙ sym (second .others k i row above))
+      (decided (ltb i (length (listOf es))))
+
+  same-place : (j : ℕ) → j < length one → getD one j 0 ≡ getD two j 0
+  unfolding tableColumns tableRows
+  same-place j h =
+      let e : j / 4096 * 4096 + j % 4096 ≡ j = omega arith in
+      let column : j / 4096 < 6 = omega (arith, first .size, size) in
+      let row : j % 4096 < 4096 = omega arith in
+      sym (ap (λ (n : ℕ). getD one n 0) e) ∙ same-cell (j / 4096) (j % 4096) column row ∙ ap (λ (n : ℕ). getD two n 0) e
+
+  one-table : one ≡ two
+  one-table = ext-getD 0 one two (first .size ∙ sym (second .size)) same-place
+
+table-by : (v : Verdict) (es : List Entry) (before one two : List ℕ) → length before ≡ tableColumns * tableRows → TableAfter v es before one
+    → TableAfter v es before two → one ≡ two
+table-by passed es before one two size first second = one-table es before one two size first second
+table-by (refused code place) es before one two size first second = first ∙ sym second
+
+pub one-listing : (file t : List ℕ) (count : ℕ) (table queries : List ℕ) → ListReady file t count table queries
+    → (table' queries' table'' queries'' : List ℕ) (r s : Listing) → ListedFile file table queries table' queries' r
+    → ListedFile file table queries table'' queries'' s → (r ≡ s) × ((table' ≡ table'') × (queries' ≡ queries''))
+one-listing file t count table queries ready table' queries' table'' queries'' r s first second = (
+  first .answer ∙ sym (second .answer),
+  (
+    table-by (code5 (entriesOf file)) (entriesOf file) table table' table'' (ready .table-size) (first .table-is) (second .table-is),
+    first .queries-are ∙ sym (second .queries-are),
+  ),
+)

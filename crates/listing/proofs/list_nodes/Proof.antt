@@ -1,0 +1,93 @@
+-- `listing::list_nodes` meets its contract: the tables hold what is listed so far, and code 5 is that of the nodes still ahead.
+-- Assumes nothing.
+use native.Mathlib.Omega.{arith}
+use Prim.Native.Nat.{ℕ, _+_, _-_, _≤_, _<_}
+use mathlib.Core.Path.{_∙_, subst}
+use Rattle.prefix.proofs.Shown.{count-few, table-long}
+use Rattle.listing.proofs.Nodewise.{NodesTo, nodes-begin, node-ready, nodes-on, nodes-over, nodes-all}
+use Rattle.listing.proofs.list_nodes.Statement.{statement}
+use Rattle.listing.proofs.list_nodes.Tie as tie
+
+abbrev Inv-loop : tie.InvT-loop
+Inv-loop file nodes count cand₀ keys₀ owners₀ n₀ i₀ cand keys owners n i = NodesTo file cand₀ keys₀ owners₀ cand keys owners n i
+
+abbrev μ-loop : tie.MeasureT-loop
+μ-loop file nodes count cand₀ keys₀ owners₀ n₀ i₀ cand keys owners n i = count - i
+
+loop-holds : tie.Need-loop-holds Inv-loop μ-loop
+loop-holds c = let s = c .before .before .before .before .before in nodes-begin (s .args .file .now) (s .args .cand .now) (s .args .keys .now) (s .args .owners .now)
+
+list-node-requires : tie.Need-list-node-requires Inv-loop μ-loop
+list-node-requires c κs = node-ready _ _ _ _ _ _ _ _ _ _ (c .before .before .before .before .before .before .before .before .before .before .pre .0) (c .before .before .before .before .before .before .before .before .before .before .pre .1 .1) (c .before .before .before .before .loop .inv) (subst (λ (k : ℕ). c .before .before .before .before .loop .i < k) (c .before .before .before .before .before .before .before .before .before .before .pre .1 .0) (c .before .before .before .loop-test .taken))
+
+add-line : tie.Need-add-line Inv-loop μ-loop
+add-line c = omega (arith, count-few _ _ (c .before .before .before .before .before .before .before .before .before .before .before .before .before .before .before .before .before .before .pre .0), (subst (λ (k : ℕ). c .before .before .before .before .before .before .before .before .before .before .before .before .loop .i < k) (c .before .before .before .before .before .before .before .before .before .before .before .before .before .before .before .before .before .before .pre .1 .0) (c .before .before .before .before .before .before .before .before .before .before .before .loop-test .taken)))
+
+mul-line : tie.Need-mul-line Inv-loop μ-loop
+mul-line c = omega (arith, count-few _ _ (c .before .before .before .before .before .before .before .before .before .before .before .before .before .before .before .before .before .before .pre .0), (subst (λ (k : ℕ). c .before .before .before .before .before .before .before .before .before .before .before .before .loop .i < k) (c .before .before .before .before .before .before .before .before .before .before .before .before .before .before .before .before .before .before .pre .1 .0) (c .before .before .before .before .before .before .before .before .before .before .before .loop-test .taken)))
+
+shared-slice-read-line : tie.Need-shared-slice-read-line Inv-loop μ-loop
+shared-slice-read-line c = omega (arith, count-few _ _ (c .before .before .before .before .before .before .before .before .before .before .before .before .before .before .before .before .before .before .before .pre .0), (subst (λ (k : ℕ). c .before .before .before .before .before .before .before .before .before .before .before .before .before .loop .i < k) (c .before .before .before .before .before .before .before .before .before .before .before .before .before .before .before .before .before .before .before .pre .1 .0) (c .before .before .before .before .before .before .before .before .before .before .before .before .loop-test .taken)), table-long _ _ (c .before .before .before .before .before .before .before .before .before .before .before .before .before .before .before .before .before .before .before .pre .0))
+
+cast-line : tie.Need-cast-line Inv-loop μ-loop
+cast-line c = omega (arith, c .shared-slice-known3 .given (5120 + c .before .before .before .before .before .before .before .before .before .before .before .before .before .loop .i))
+
+same-length : tie.Need-same-length Inv-loop μ-loop
+same-length c = c .before .before .before .before .before .before .before .before .list-node .kept .1 .1 .1 .0 ∙ c .before .before .before .before .before .before .before .before .before .before .before .before .before .loop .inv .cand-size
+
+same-length-2 : tie.Need-same-length-2 Inv-loop μ-loop
+same-length-2 c = c .before .before .before .before .before .before .before .before .list-node .kept .1 .1 .1 .1 .0 ∙ c .before .before .before .before .before .before .before .before .before .before .before .before .before .loop .inv .keys-size
+
+same-length-3 : tie.Need-same-length-3 Inv-loop μ-loop
+same-length-3 c = c .before .before .before .before .before .before .before .before .list-node .kept .1 .1 .1 .1 .1 .0 ∙ c .before .before .before .before .before .before .before .before .before .before .before .before .before .loop .inv .owners-size
+
+returns : tie.Need-returns Inv-loop μ-loop
+returns c = nodes-over _ _ _ _ _ _ _ _ _ _ (c .before .before .before .before .before .before .before .before .before .before .before .before .before .before .before .before .before .before .before .pre .0) (c .before .before .before .before .before .before .before .before .before .before .before .before .before .before .before .before .before .before .before .pre .1 .1) (c .before .before .before .before .before .before .before .before .before .before .before .before .before .loop .inv) (subst (λ (k : ℕ). c .before .before .before .before .before .before .before .before .before .before .before .before .before .loop .i < k) (c .before .before .before .before .before .before .before .before .before .before .before .before .before .before .before .before .before .before .before .pre .1 .0) (c .before .before .before .before .before .before .before .before .before .before .before .before .loop-test .taken)) _ _ _ _ (c .before .before .before .before .before .before .before .before .list-node .ensures) (c .before .if1 .taken) _ _ _
+
+add-i : tie.Need-add-i Inv-loop μ-loop
+add-i c = omega (arith, count-few _ _ (c .before .before .before .before .before .before .before .before .before .before .before .before .before .before .before .before .before .before .pre .0), (subst (λ (k : ℕ). c .before .before .before .before .before .before .before .before .before .before .before .before .loop .i < k) (c .before .before .before .before .before .before .before .before .before .before .before .before .before .before .before .before .before .before .pre .1 .0) (c .before .before .before .before .before .before .before .before .before .before .before .loop-test .taken)))
+
+loop-less : tie.Need-loop-less Inv-loop μ-loop
+loop-less c = omega arith
+
+loop-again : tie.Need-loop-again Inv-loop μ-loop
+loop-again c =
+    nodes-on _ _ _ _ _ _ _ _ _ _ (c .before .before .before .before .before .before .before .before .before .before .before .before .before .before .before .before .before .before .pre .0) (c .before .before .before .before .before .before .before .before .before .before .before .before .before .before .before .before .before .before .pre .1 .1) (c .before .before .before .before .before .before .before .before .before .before .before .before .loop .inv) (subst (λ (k : ℕ). c .before .before .before .before .before .before .before .before .before .before .before .before .loop .i < k) (c .before .before .before .before .before .before .before .before .before .before .before .before .before .before .before .before .before .before .pre .1 .0) (c .before .before .before .before .before .before .before .before .before .before .before .loop-test .taken)) _ _ _ _ (c .before .before .before .before .before .before .before .list-node .ensures) (c .if1 .left)
+    (c .before .before .before .before .before .before .before .list-node .kept .1 .1 .1 .0) (c .before .before .before .before .before .before .before .list-node .kept .1 .1 .1 .1 .0) (c .before .before .before .before .before .before .before .list-node .kept .1 .1 .1 .1 .1 .0)
+
+same-length-4 : tie.Need-same-length-4 Inv-loop μ-loop
+same-length-4 c = c .before .loop .inv .cand-size
+
+same-length-5 : tie.Need-same-length-5 Inv-loop μ-loop
+same-length-5 c = c .before .loop .inv .keys-size
+
+same-length-6 : tie.Need-same-length-6 Inv-loop μ-loop
+same-length-6 c = c .before .loop .inv .owners-size
+
+returns-2 : tie.Need-returns-2 Inv-loop μ-loop
+returns-2 c =
+    nodes-all _ _ _ _ _ _ _ _ (c .before .loop .i) (c .before .loop .inv) (subst (λ (k : ℕ). k ≤ c .before .loop .i) (c .before .before .before .before .before .before .before .pre .1 .0) (c .loop-test .left))
+
+pub list-nodes-spec : {M : Type 1} → statement M
+list-nodes-spec =
+    tie.close
+    (tie.spec
+    Inv-loop
+    μ-loop
+    loop-holds
+    list-node-requires
+    add-line
+    mul-line
+    shared-slice-read-line
+    cast-line
+    same-length
+    same-length-2
+    same-length-3
+    returns
+    add-i
+    loop-less
+    loop-again
+    same-length-4
+    same-length-5
+    same-length-6
+    returns-2)

@@ -1,0 +1,4 @@
+pub mod Forms
+pub mod Whole
+pub mod Lines
+pub mod Outcome

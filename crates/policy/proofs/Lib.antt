@@ -1,0 +1,9 @@
+pub mod Feeds
+pub mod Spots
+pub mod Verdicts
+pub mod Cells
+pub mod Stages
+pub mod Ends
+pub mod Above
+pub mod Finish
+pub mod OneAnswer

@@ -1,0 +1,41 @@
+-- `policy::check` meets its contract: the three codes are tried in the order of the definition.
+-- Assumes nothing.
+use mathlib.Core.Path.{sym, _∙_}
+use Rattle.infon.specs.Policy.{entriesOf, andThen, code2, code3}
+use Rattle.policy.proofs.Verdicts.{was-passed, check-long, check-lines, check-nodes}
+use borrow.Author.Needs.{needs}
+use Rattle.policy.proofs.check.Statement.{statement}
+use Rattle.policy.proofs.check.Tie as tie
+
+returns : tie.Need-returns
+returns c = check-long (c .before .before .args .file .now) (andThen (code2 (c .before .before .args .file .now)) (code3 (entriesOf (c .before .before .args .file .now)))) (c .if1 .taken)
+
+first-malformed-requires : tie.Need-first-malformed-requires
+first-malformed-requires c κs = search needs
+
+enum-known-lines : tie.Need-enum-known-lines
+enum-known-lines c = search needs
+
+returns-2 : tie.Need-returns-2
+returns-2 c = check-lines (c .before .before .before .before .before .before .args .file .now) (c .before .before .before .before .if1 .left) (c .before .lines .given .0 .0) (c .before .lines .given .0 .1 .0) (sym (c .before .before .before .first-malformed .ensures) ∙ c .before .lines .given .1)
+
+enum-told : tie.Need-enum-told
+enum-told c = search needs
+
+too-many-requires : tie.Need-too-many-requires
+too-many-requires c κs = (was-passed (code2 (c .before .before .before .before .before .args .file .now)) (sym (c .before .before .first-malformed .ensures) ∙ c .enum-told .given .1))
+
+returns-3 : tie.Need-returns-3
+returns-3 c = c .too-many .ensures ∙ check-nodes (c .before .before .before .before .before .before .args .file .now) (c .before .before .before .before .if1 .left) (was-passed (code2 (c .before .before .before .before .before .before .args .file .now)) (sym (c .before .before .before .first-malformed .ensures) ∙ c .before .enum-told .given .1))
+
+pub check-spec : {M : Type 1} → statement M
+check-spec =
+    tie.close
+    (tie.spec
+    returns
+    first-malformed-requires
+    enum-known-lines
+    returns-2
+    enum-told
+    too-many-requires
+    returns-3)

@@ -1,0 +1,46 @@
+-- `policy::filling::end_from` meets its contract: the tests of the kind are those of the definition.
+-- Assumes nothing.
+use mathlib.Core.Path.{_∙_, ap}
+use Rattle.policy.specs.Filling.{cellAt}
+use Rattle.policy.proofs.Ends.{end-leaf, end-quoted, end-parts}
+use borrow.Author.Needs.{needs}
+use native.Mathlib.Omega.{arith}
+use Rattle.policy.proofs.filling.end_from.Statement.{statement}
+use Rattle.policy.proofs.filling.end_from.Tie as tie
+
+cell-requires : tie.Need-cell-requires
+cell-requires c κs = search needs
+
+add-result : tie.Need-add-result
+add-result c = search needs
+
+returns : tie.Need-returns
+returns c = end-leaf (c .before .before .before .args .nodes .now) (c .before .before .before .args .i) (omega (arith, c .before .cell .ensures))
+
+add-cell : tie.Need-add-cell
+add-cell c = search needs
+
+cell-requires-2 : tie.Need-cell-requires-2
+cell-requires-2 c κs = ((omega arith, c .before .before .before .pre .1 .1 .first (omega (arith, c .before .cell .ensures))), c .before .before .before .pre .1 .0)
+
+returns-2 : tie.Need-returns-2
+returns-2 c = c .before .cell2 .ensures ∙ end-quoted (c .before .before .before .before .before .args .nodes .now) (c .before .before .before .before .before .args .i) (omega (arith, c .before .before .before .cell .ensures)) (omega (arith, c .before .before .before .cell .ensures))
+
+cell-requires-3 : tie.Need-cell-requires-3
+cell-requires-3 c κs = ((omega arith, omega (arith, c .before .cell2 .ensures, c .before .before .before .before .before .pre .1 .1 .second (omega (arith, c .before .before .before .cell .ensures)) (omega (arith, c .before .before .before .cell .ensures)))), c .before .before .before .before .before .pre .1 .0)
+
+returns-3 : tie.Need-returns-3
+returns-3 c = c .cell3 .ensures ∙ ap (cellAt (c .before .before .before .before .before .before .args .nodes .now) 3) (c .before .before .cell2 .ensures) ∙ end-parts (c .before .before .before .before .before .before .args .nodes .now) (c .before .before .before .before .before .before .args .i) (omega (arith, c .before .before .before .before .cell .ensures)) (omega (arith, c .before .before .before .before .cell .ensures))
+
+pub end-from-spec : {M : Type 1} → statement M
+end-from-spec =
+    tie.close
+    (tie.spec
+    cell-requires
+    add-result
+    returns
+    add-cell
+    cell-requires-2
+    returns-2
+    cell-requires-3
+    returns-3)

@@ -1,0 +1,93 @@
+-- `policy::filling::hand_down` meets its contract: the tests of the kind are those of the definition.
+-- Assumes nothing.
+use Prim.Native.Nat.{_+_, _*_}
+use mathlib.Core.Path.{_∙_, ap}
+use lib.ListN.{length}
+use Rattle.policy.specs.Filling.{abovePut}
+use Rattle.policy.proofs.Above.{above-size, down-leaf, down-quoted, down-stored}
+use borrow.Author.Needs.{needs}
+use native.Mathlib.Omega.{arith}
+use Rattle.policy.proofs.filling.hand_down.Statement.{statement}
+use Rattle.policy.proofs.filling.hand_down.Tie as tie
+
+cell-requires : tie.Need-cell-requires
+cell-requires c κs = search needs
+
+same-length : tie.Need-same-length
+same-length c = search needs
+
+returns : tie.Need-returns
+returns c = down-leaf (c .before .before .before .before .args .nodes .now) (c .before .before .before .before .args .i) (omega (arith, c .before .cell .ensures))
+
+cell-requires-2 : tie.Need-cell-requires-2
+cell-requires-2 c κs = search needs
+
+cell-requires-3 : tie.Need-cell-requires-3
+cell-requires-3 c κs = search needs
+
+add-put-above : tie.Need-add-put-above
+add-put-above c = search needs
+
+add-put-above-2 : tie.Need-add-put-above-2
+add-put-above-2 c = search needs
+
+put-above-requires : tie.Need-put-above-requires
+put-above-requires c κs = (c .before .before .before .before .before .before .before .before .before .before .pre .1 .1 .0 .first (omega (arith, c .before .before .before .before .before .before .before .cell .ensures)), ((omega arith, omega (arith, c .before .before .cell3 .ensures, c .before .before .before .before .before .before .before .before .before .before .pre .1 .1 .1)), c .before .before .before .before .before .before .before .before .before .before .pre .1 .0))
+
+same-length-2 : tie.Need-same-length-2
+same-length-2 c = search needs
+
+returns-2 : tie.Need-returns-2
+returns-2 c = c .before .before .put-above .ensures
+    ∙ ap (λ d. abovePut (c .before .before .before .before .before .before .before .before .before .before .before .before .before .args .nodes .now) (c .before .before .before .before .before .before .before .before .before .before .before .before .before .args .i + 1) (c .before .before .before .before .before .before .before .before .before .before .before .before .before .args .i) (d + 1)) (c .before .before .before .before .before .cell3 .ensures) ∙ down-quoted (c .before .before .before .before .before .before .before .before .before .before .before .before .before .args .nodes .now) (c .before .before .before .before .before .before .before .before .before .before .before .before .before .args .i) (omega (arith, c .before .before .before .before .before .before .before .before .before .before .cell .ensures)) (omega (arith, c .before .before .before .before .before .before .before .before .before .before .cell .ensures))
+
+add-cell : tie.Need-add-cell
+add-cell c = search needs
+
+cell-requires-4 : tie.Need-cell-requires-4
+cell-requires-4 c κs = ((omega arith, c .before .before .before .before .before .before .before .before .before .before .pre .1 .1 .0 .first (omega (arith, c .before .before .before .before .before .before .before .cell .ensures))), c .before .before .before .before .before .before .before .before .before .before .pre .1 .0)
+
+add-put-above-3 : tie.Need-add-put-above-3
+add-put-above-3 c = search needs
+
+put-above-requires-2 : tie.Need-put-above-requires-2
+put-above-requires-2 c κs = (c .before .before .before .before .before .before .before .before .before .before .before .before .pre .1 .1 .0 .first (omega (arith, c .before .before .before .before .before .before .before .before .before .cell .ensures)), ((omega (arith, c .before .before .before .before .before .before .cell2 .ensures, c .before .before .before .before .before .before .before .before .before .before .before .slice-known .given (4 * 1024 + c .before .before .before .before .before .before .before .before .before .before .before .before .args .i)), omega (arith, c .before .before .before .before .cell3 .ensures, c .before .before .before .before .before .before .before .before .before .before .before .before .pre .1 .1 .1)), c .before .before .before .before .before .before .before .before .before .before .before .before .pre .1 .0))
+
+put-above-requires-3 : tie.Need-put-above-requires-3
+put-above-requires-3 c κs = (
+  omega (arith, c .before .before .before .before .before .cell4 .ensures, c .before .before .before .before .before .before .before .before .before .before .before .before .before .before .before .before .pre .1 .1 .0 .second (omega (arith, c .before .before .before .before .before .before .before .before .before .before .before .before .before .cell .ensures)) (omega (arith, c .before .before .before .before .before .before .before .before .before .before .before .before .before .cell .ensures))),
+  (
+    (omega (arith, c .before .before .before .before .before .before .before .before .before .before .cell2 .ensures, c .before .before .before .before .before .before .before .before .before .before .before .before .before .before .before .slice-known .given (4 * 1024 + c .before .before .before .before .before .before .before .before .before .before .before .before .before .before .before .before .args .i)), omega (arith, c .before .before .before .before .before .before .before .before .cell3 .ensures, c .before .before .before .before .before .before .before .before .before .before .before .before .before .before .before .before .pre .1 .1 .1)),
+    ap length (c .before .before .before .put-above2 .ensures) ∙ above-size (c .before .before .before .before .before .before .before .before .before .before .before .before .before .before .before .before .args .nodes .now) (c .before .before .before .before .before .before .before .before .before .before .before .before .before .before .before .before .pre .1 .0) (c .before .before .before .before .before .before .before .before .before .before .before .before .before .before .before .before .args .i + 1) _ _ (c .before .before .before .before .before .before .before .before .before .before .before .before .before .before .before .before .pre .1 .1 .0 .first (omega (arith, c .before .before .before .before .before .before .before .before .before .before .before .before .before .cell .ensures))),
+  ),
+)
+
+same-length-3 : tie.Need-same-length-3
+same-length-3 c = search needs
+
+returns-3 : tie.Need-returns-3
+returns-3 c =
+    down-stored (c .before .before .before .before .before .before .before .before .before .before .before .before .before .before .before .before .before .before .before .args .nodes .now) (c .before .before .before .before .before .before .before .before .before .before .before .before .before .before .before .before .before .before .before .args .i) (c .before .before .before .before .before .before .put-above2 .last .0) (c .before .before .put-above3 .last .0) (c .before .before .before .before .before .before .before .before .before .before .before .before .before .cell2 .result) (c .before .before .before .before .before .before .before .before .before .before .before .cell3 .result) (c .before .before .before .before .before .before .before .before .cell4 .result)
+    (c .before .before .before .before .before .before .put-above2 .ensures) (c .before .before .put-above3 .ensures) (c .before .before .before .before .before .before .before .before .before .before .before .before .before .cell2 .ensures) (c .before .before .before .before .before .before .before .before .before .before .before .cell3 .ensures) (c .before .before .before .before .before .before .before .before .cell4 .ensures) (omega (arith, c .before .before .before .before .before .before .before .before .before .before .before .before .before .before .before .before .cell .ensures)) (omega (arith, c .before .before .before .before .before .before .before .before .before .before .before .before .before .before .before .before .cell .ensures))
+
+pub hand-down-spec : {M : Type 1} → statement M
+hand-down-spec =
+    tie.close
+    (tie.spec
+    cell-requires
+    same-length
+    returns
+    cell-requires-2
+    cell-requires-3
+    add-put-above
+    add-put-above-2
+    put-above-requires
+    same-length-2
+    returns-2
+    add-cell
+    cell-requires-4
+    add-put-above-3
+    put-above-requires-2
+    put-above-requires-3
+    same-length-3
+    returns-3)

@@ -1,0 +1,70 @@
+-- `policy::lines::is_well_formed` meets its contract: each outcome is that of the tests that lead there, and the part that is handed on is
+-- the formula's text.
+-- Assumes nothing.
+use mathlib.Core.Path.{sym, _∙_}
+use Rattle.policy.proofs.Feeds.{feed-fits, line-unended, line-short, line-opened, line-unopened}
+use borrow.Author.Needs.{needs}
+use native.Mathlib.Omega.{arith}
+use Rattle.policy.proofs.lines.is_well_formed.Statement.{statement}
+use Rattle.policy.proofs.lines.is_well_formed.Tie as tie
+
+returns : tie.Need-returns
+returns c = line-unended (c .before .before .args .file .now) (c .before .before .args .start) (c .before .before .args .end) (c .before .before .pre .0) (c .before .before .pre .1) (c .if1 .taken)
+
+sub-if2 : tie.Need-sub-if2
+sub-if2 c = search needs
+
+returns-2 : tie.Need-returns-2
+returns-2 c = line-short (c .before .before .before .args .file .now) (c .before .before .before .args .start) (c .before .before .before .args .end) (c .before .before .before .pre .0) (c .before .before .before .pre .1) (c .if2 .taken)
+
+shared-slice-read-is-opening : tie.Need-shared-slice-read-is-opening
+shared-slice-read-is-opening c = search needs
+
+add-is-opening : tie.Need-add-is-opening
+add-is-opening c = search needs
+
+shared-slice-read-is-opening-2 : tie.Need-shared-slice-read-is-opening-2
+shared-slice-read-is-opening-2 c = omega (arith, feed-fits (c .before .before .before .before .before .args .file .now) (c .before .before .before .before .before .args .start) (omega arith), c .before .before .before .before .before .pre .1)
+
+is-opening-requires : tie.Need-is-opening-requires
+is-opening-requires c κs = search needs
+
+add-is-formula : tie.Need-add-is-formula
+add-is-formula c = search needs
+
+sub-is-formula : tie.Need-sub-is-formula
+sub-is-formula c = search needs
+
+part-is-formula-start : tie.Need-part-is-formula-start
+part-is-formula-start c = search needs
+
+part-is-formula-end : tie.Need-part-is-formula-end
+part-is-formula-end c = omega (arith, feed-fits (c .before .before .before .before .before .before .before .args .file .now) (c .before .before .before .before .before .before .before .args .start) (omega arith), c .before .before .before .before .before .before .before .pre .1)
+
+is-formula-requires : tie.Need-is-formula-requires
+is-formula-requires c κs = search needs
+
+returns-3 : tie.Need-returns-3
+returns-3 c = c .is-formula .ensures ∙ line-opened (c .before .before .before .before .before .before .before .before .before .args .file .now) (c .before .before .before .before .before .before .before .before .before .args .start) (c .before .before .before .before .before .before .before .before .before .args .end) (c .before .before .before .before .before .before .before .before .before .pre .0) (c .before .before .before .before .before .before .before .before .before .pre .1) (omega (arith, feed-fits (c .before .before .before .before .before .before .before .before .before .args .file .now) (c .before .before .before .before .before .before .before .before .before .args .start) (omega arith), c .before .before .before .before .before .before .before .before .before .pre .1, c .before .before .before .before .before .before .before .if1 .left)) (c .before .before .before .before .before .before .if2 .left) (sym (c .before .before .before .is-opening .ensures) ∙ c .before .before .if3 .taken)
+
+returns-4 : tie.Need-returns-4
+returns-4 c = line-unopened (c .before .before .before .before .before .before .before .args .file .now) (c .before .before .before .before .before .before .before .args .start) (c .before .before .before .before .before .before .before .args .end) (c .before .before .before .before .before .before .before .pre .0) (c .before .before .before .before .before .before .before .pre .1) (omega (arith, feed-fits (c .before .before .before .before .before .before .before .args .file .now) (c .before .before .before .before .before .before .before .args .start) (omega arith), c .before .before .before .before .before .before .before .pre .1, c .before .before .before .before .before .if1 .left)) (c .before .before .before .before .if2 .left) (sym (c .before .is-opening .ensures) ∙ c .if3 .left)
+
+pub is-well-formed-spec : {M : Type 1} → statement M
+is-well-formed-spec =
+    tie.close
+    (tie.spec
+    returns
+    sub-if2
+    returns-2
+    shared-slice-read-is-opening
+    add-is-opening
+    shared-slice-read-is-opening-2
+    is-opening-requires
+    add-is-formula
+    sub-is-formula
+    part-is-formula-start
+    part-is-formula-end
+    is-formula-requires
+    returns-3
+    returns-4)

@@ -1,0 +1,5 @@
+pub mod Codes
+pub mod Lining
+pub mod Walking
+pub mod Filling
+pub mod Tables

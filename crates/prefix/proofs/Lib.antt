@@ -1,0 +1,4 @@
+pub mod Loops
+pub mod Chosen
+pub mod Shown
+pub mod Inside

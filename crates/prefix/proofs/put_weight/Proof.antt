@@ -1,0 +1,18 @@
+use Rattle.prefix.specs.Places.{putWeight}
+use Rattle.prefix.proofs.put_weight.Statement.{statement}
+use Rattle.prefix.proofs.put_weight.Tie as tie
+use Rattle.prefix.proofs.put_weight.Reads as reads
+use Rattle.prefix.proofs.put_weight.Lts as lts
+
+-- src/lib.rt:115:9
+returns : tie.Need-returns
+unfolding putWeight
+returns c = rw (c .if1 .taken)
+
+-- src/lib.rt:111:1
+returns-2 : tie.Need-returns-2
+unfolding putWeight
+returns-2 c = rw (c .if1 .left)
+
+pub put-weight-spec : {M : Type 1} → statement M
+put-weight-spec = tie.close (tie.spec returns returns-2)
