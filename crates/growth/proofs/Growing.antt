@@ -15,13 +15,14 @@ use Rattle.infon.proofs.Codec.{length-spelled, length-spelledAll}
 use Rattle.infon.proofs.Grown.{firstOf-passes}
 use Rattle.infon.proofs.Cuts.{length-written}
 use Rattle.table.specs.Tests.{goodIn}
+use Rattle.table.proofs.Given.{good-below}
 use Rattle.journal.specs.Kept.{markAll}
-use Rattle.journal.proofs.Keeping.{good-below}
 use Rattle.journal.proofs.Writing.{written-more, written-nothing, tail-written}
 use Rattle.links.specs.Chains.{Ready}
-use Rattle.ways.specs.declared.Next.{Next}
-use Rattle.ways.specs.declared.Next.the-variants.{Due, Finished}
-use Rattle.ways.specs.Search.{nextOf, nextIn}
+use Rattle.ways.specs.Search.{nextIn}
+use Rattle.cover.specs.declared.Next.{Next}
+use Rattle.cover.specs.declared.Next.the-variants.{Due, Finished}
+use Rattle.cover.specs.Found.{nextOf}
 use Rattle.growth.specs.Grown.{grownIn, Roomy, Grows}
 
 -- What is added in all is what is added so far and what is added from here on.
@@ -112,10 +113,13 @@ module _ {t links : List ℕ} {n : ℕ} {marks₀ journal₀ : List ℕ} {kept l
     is-due : nextIn t n marks ≡ some r
     is-due = next-due (nextIn t n marks) r (sym told ∙ answered)
 
-    -- its mark has a place
+    -- it is for a listed formula, and its mark has a place
+    pub next-listed : r .formula < n
+    next-listed = next-below t n marks r is-due
+
     pub mark-place : r .formula < length marks
     mark-place =
-        let low = next-below t n marks r is-due in
+        let low = next-listed in
         let long = growing .ready .marks-long in
         omega arith
 

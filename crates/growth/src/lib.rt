@@ -1,6 +1,7 @@
 // The growth of the journal: records are added right after the kept part, each the next one.
+use cover::Next;
+use cover::WORDS;
 use journal::RECORD_BYTES;
-use ways::Next;
 ghost use Rattle.growth.specs.Grown.{Roomy, Grows};
 
 // How many records were added, and whether no record is next any more.
@@ -9,7 +10,7 @@ pub struct Growth {
     pub finished: bool,
 }
 
-// Adds the next record to the journal and marks it, again and again, until none is next or as many were added as the limit says.
+// Adds the next record to the journal, marks it and touches it in the covering set, again and again, until none is next or as many were added as the limit says.
 pub fn grow(
     table: &[u16],
     links: &[u16],
@@ -23,9 +24,11 @@ pub fn grow(
     ensures { λ r. ⌜ Grows (now (table .entry)) n (now (marks .entry)) (now (journal .entry)) kept limit r (now (marks .exit))
         (now (journal .exit)) ⌝ }
 {
+    let mut cover = [0u64; WORDS];
+    cover::begin(table, links, n, marks, &mut cover);
     let mut added = 0;
     loop {
-        let Next::Due(r) = ways::next_record(table, links, marks, n) else {
+        let Next::Due(r) = cover::next_record(table, links, n, marks, &mut cover) else {
             return Growth {
                 added,
                 finished: true,
@@ -41,6 +44,7 @@ pub fn grow(
         journal::encode(&mut journal[at..], r);
         let formula = r.formula;
         marks[formula] = 1;
+        cover::touch(table, links, n, marks, &mut cover, formula);
         added += 1;
     }
 }

@@ -214,7 +214,7 @@ PremisesBelow n (Both p q) = (p < n) × (q < n)
 PremisesBelow n (Apply p q) = (p < n) × (q < n)
 PremisesBelow n (Attach p) = p < n
 
-way-mem : (n : ℕ) (w : Way) → PremisesBelow n w → List·Memᴰ w (allWays (numbersFrom 0 n))
+pub way-mem : (n : ℕ) (w : Way) → PremisesBelow n w → List·Memᴰ w (allWays (numbersFrom 0 n))
 unfolding allWays
 way-mem n Hypothesis b = List·Memᴰ·head refl
 way-mem n Given b = List·Memᴰ·tail (List·Memᴰ·head refl)

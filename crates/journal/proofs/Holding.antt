@@ -21,9 +21,8 @@ use Rattle.infon.proofs.Grown.{GoodRow, stop, more, kept-good}
 use Rattle.infon.proofs.Missing.{recorded-now, recorded-other}
 use Rattle.table.specs.Table.{flag, tableRows, Tabled}
 use Rattle.table.specs.Tests.{Held}
-use Rattle.table.proofs.Given.{good-in}
+use Rattle.table.proofs.Given.{good-below, good-in}
 use Rattle.journal.specs.Kept.{markAll, onlyGoodIn, keptBy, keptIn, Keeps}
-use Rattle.journal.proofs.Keeping.{good-below}
 
 module _ (hyps fs : List Formula) (t : List ℕ) (n : ℕ) where
   -- the marks with that of one more good record

@@ -4,17 +4,16 @@ use Prim.Native.Nat.{ℕ, suc, _+_, _*_, _-_, _/_, _≤_, _<_}
 use native.Mathlib.Nat.{zero-add}
 use native.Mathlib.Omega.{arith}
 use mathlib.Core.Path.{_≡_, refl, sym, _∙_, ap}
-use mathlib.Core.Bool.{Bool, true, false, _&&_, not}
+use mathlib.Core.Bool.{Bool, true, false, not}
 use mathlib.Core.Option.{Option, none, some}
 use mathlib.Core.List.{List, [], _∷_}
 use lib.ListN.{length, take, drop, set, length-set}
-use lib.Dec.{ltb}
 use lib.Seq.{drop-drop}
-use borrow.Author.Tests.{ltb-true, not-true, not-false}
+use borrow.Author.Tests.{not-true, not-false}
 use Rattle.infon.specs.declared.Record.{Record}
 use Rattle.infon.specs.Journal.{recordBytes, decoded, wholeRecords, followed}
-use Rattle.infon.proofs.Rows.{and-true}
-use Rattle.table.specs.Tests.{isMarked, leadsTo, goodIn}
+use Rattle.table.specs.Tests.{goodIn}
+use Rattle.table.proofs.Given.{good-below}
 use Rattle.reader.specs.declared.Decoded.{Decoded}
 use Rattle.reader.specs.declared.Decoded.the-variants as Reads
 use Rattle.reader.specs.Decoded.{toDecoded, recordAt}
@@ -55,14 +54,6 @@ decoded-record (some q) r e = cc
 decoded-nothing : (o : Option Record) → Reads.Nothing ≡ toDecoded o → o ≡ none
 decoded-nothing none e = refl
 decoded-nothing (some q) e = cc
-
--- a good record is for a listed formula
-pub good-below : (t : List ℕ) (n : ℕ) (marks : List ℕ) (r : Record) → goodIn t n marks r ≡ true → r .formula < n
-unfolding goodIn
-good-below t n marks r good =
-    let listed = ltb (r .formula) n in
-    let unmarked = not (isMarked n marks (r .formula)) in
-    ltb-true (r .formula) n (and-true listed unmarked (and-true (listed && unmarked) (leadsTo t n marks (r .formula) (r .way)) good .0) .0)
 
 pub passed-below : (t : List ℕ) (n : ℕ) (marks : List ℕ) (r : Record) {good : Bool} → good ≡ goodIn t n marks r → not good ≡ false
     → r .formula < n

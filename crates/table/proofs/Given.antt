@@ -150,6 +150,14 @@ pub marked-below : (n : ℕ) (marks : List ℕ) (i : ℕ) → isMarked n marks i
 unfolding isMarked
 marked-below n marks i h = ltb-true i n (and-true (ltb i n) (eqb (getD marks i 0) 1) h .0)
 
+-- a good record is for a listed formula
+pub good-below : (t : List ℕ) (n : ℕ) (marks : List ℕ) (r : Record) → goodIn t n marks r ≡ true → r .formula < n
+unfolding goodIn
+good-below t n marks r good =
+    let listed = ltb (r .formula) n in
+    let unmarked = not (isMarked n marks (r .formula)) in
+    ltb-true (r .formula) n (and-true listed unmarked (and-true (listed && unmarked) (leadsTo t n marks (r .formula) (r .way)) good .0) .0)
+
 -- marked premises are below n
 pub premises-below : (n : ℕ) (marks : List ℕ) (way : Way) → premisesMarked n marks way ≡ true → PremisesBelow n way
 unfolding premisesMarked

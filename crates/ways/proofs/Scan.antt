@@ -21,9 +21,7 @@ use Rattle.table.specs.Tests.{givesIn, isMarked, premisesMarked, leadsTo, goodI
 use Rattle.table.proofs.Given.{good-in}
 use Rattle.ways.specs.declared.Least.{Least}
 use Rattle.ways.specs.declared.Least.the-variants.{By, Missing}
-use Rattle.ways.specs.declared.Next.{Next}
-use Rattle.ways.specs.declared.Next.the-variants.{Due, Finished}
-use Rattle.ways.specs.Search.{leastBelow, leastPremise, isWhole, leastWhole, leastOf, leastAmong, pairsOf, lastWays, leastWayIn, dueWayIn, nextOf, nextIn}
+use Rattle.ways.specs.Search.{leastBelow, leastPremise, isWhole, leastWhole, leastOf, leastAmong, pairsOf, lastWays, leastWayIn, dueWayIn, nextIn}
 use Rattle.ways.proofs.Firsts.{passes, fails, nothing, all-fail, alike-first, append-found, append-none, map-found, map-none, least-first, least-none}
 use Rattle.ways.proofs.Pairs.{found-among, none-among}
 
@@ -33,7 +31,7 @@ unfolding leastOf
 answer-by none e h = absurd (let z : _≡_ {A = ℕ} 0 1 = cc in omega arith)
 answer-by (some found) {r} {way} e h = let same : found ≡ way = cc in ap (λ (w : Way). some w) same
 
-answer-missing : (o : Option Way) {r : Least} → r ≡ leastOf o → r ≡ Missing → o ≡ none
+pub answer-missing : (o : Option Way) {r : Least} → r ≡ leastOf o → r ≡ Missing → o ≡ none
 unfolding leastOf
 answer-missing none e h = refl
 answer-missing (some found) e h = absurd (let z : _≡_ {A = ℕ} 0 1 = cc in omega arith)
@@ -246,15 +244,6 @@ module _ (t : List ℕ) (n : ℕ) (marks : List ℕ) where
   pub scan-over : (f : ℕ) → n ≤ f → nextFrom t n marks f ≡ none
   unfolding nextFrom numbersFrom recordsFor
   scan-over f h = let e : n - f ≡ 0 = omega arith in rw e (nothing (goodIn t n marks))
-
-  pub next-due : (f : ℕ) {r : Least} {way : Way} → nextIn t n marks ≡ nextFrom t n marks f → f < n → r ≡ dueWayIn t n marks f
-      → r ≡ By way → Due (record { formula = f; way = way }) ≡ nextOf (nextIn t n marks)
-  unfolding nextOf
-  next-due f so-far h e due = rw (so-far ∙ scan-found f h e due)
-
-  pub next-finished : (f : ℕ) → nextIn t n marks ≡ nextFrom t n marks f → n ≤ f → Finished ≡ nextOf (nextIn t n marks)
-  unfolding nextOf
-  next-finished f so-far h = rw (so-far ∙ scan-over f h)
 
 -- the next record over a table and marks that hold a list and its records is the paper's
 pub next-in : (hyps fs : List Formula) (done : List Record) (t : List ℕ) (n : ℕ) (marks : List ℕ) → Held hyps fs done t n marks

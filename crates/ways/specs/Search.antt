@@ -13,8 +13,6 @@ use Rattle.table.specs.Table.{cell}
 use Rattle.table.specs.Tests.{kindAt, leftAt, rightAt, isMarked, leadsTo, goodIn}
 use Rattle.ways.specs.declared.Least.{Least}
 use Rattle.ways.specs.declared.Least.the-variants.{By, Missing}
-use Rattle.ways.specs.declared.Next.{Next}
-use Rattle.ways.specs.declared.Next.the-variants.{Due, Finished}
 
 -- the least number below n that passes, n where none does
 unfoldable pub numberOr : ℕ → Option ℕ → ℕ
@@ -61,11 +59,7 @@ unfoldable pub dueWayIn : List ℕ → ℕ → List ℕ → ℕ → Least
 dueWayIn t n marks f =
     leastOf (firstOf (λ (way : Way). goodIn t n marks (record { formula = f; way = way })) (allWays (numbersFrom 0 n)))
 
--- the answer to "The next record, if any": `Finished` where there is none
-unfoldable pub nextOf : Option Record → Next
-nextOf none = Finished
-nextOf (some r) = Due r
-
+-- the next record, if any
 unfoldable pub nextIn : List ℕ → ℕ → List ℕ → Option Record
 nextIn t n marks = firstOf (goodIn t n marks) (allRecords n)
 

@@ -1,5 +1,4 @@
-// The least way to a formula and the next record, found along chains of formulas that share a part or a bottom.
-use infon::Record;
+// The least way to a formula, found along chains of formulas that share a part or a bottom.
 use infon::Way;
 use links::BOTTOMS;
 use links::LEFTS;
@@ -20,18 +19,12 @@ ghost use lib.ListN.{length};
 ghost use Rattle.infon.specs.declared.Way.the-variants.{Weaken, Both, Apply, Attach};
 ghost use Rattle.infon.specs.Journal.{numbersFrom};
 ghost use Rattle.links.specs.Chains.{ChainOf, Ready};
-ghost use Rattle.ways.specs.Search.{leastPremise, leastWhole, leastAmong, pairsOf, lastWays, leastWayIn, dueWayIn, nextOf, nextIn, conditionIn};
+ghost use Rattle.ways.specs.Search.{leastPremise, leastWhole, leastAmong, pairsOf, lastWays, leastWayIn, dueWayIn, conditionIn};
 
 // The answer of a search for a way.
 pub enum Least {
     By(Way),
     Missing,
-}
-
-// The answer to "The next record, if any".
-pub enum Next {
-    Due(Record),
-    Finished,
 }
 
 // Rule 3: the least recorded formula that weakens to f, n where there is none.
@@ -190,7 +183,7 @@ fn least_way(table: &[u16], links: &[u16], marks: &[u8], n: usize, f: usize) -> 
 }
 
 // The least way to f where f is not recorded yet.
-fn due_way(table: &[u16], links: &[u16], marks: &[u8], n: usize, f: usize) -> Least
+pub fn due_way(table: &[u16], links: &[u16], marks: &[u8], n: usize, f: usize) -> Least
     requires { ⌜ Ready (now table) (now links) (now marks) n × (f < n) ⌝ }
     ensures { λ r. ⌜ r ≡ dueWayIn (now (table .entry)) n (now (marks .entry)) f ⌝ }
 {
@@ -199,20 +192,4 @@ fn due_way(table: &[u16], links: &[u16], marks: &[u8], n: usize, f: usize) -> Le
     } else {
         least_way(table, links, marks, n, f)
     }
-}
-
-// The next record after the marked ones: the least formula that is not recorded and has a way, by its least way.
-pub fn next_record(table: &[u16], links: &[u16], marks: &[u8], n: usize) -> Next
-    requires { ⌜ Ready (now table) (now links) (now marks) n ⌝ }
-    ensures { λ r. ⌜ r ≡ nextOf (nextIn (now (table .entry)) n (now (marks .entry))) ⌝ }
-{
-    let mut f = 0;
-    while f < n {
-        let due = due_way(table, links, marks, n, f);
-        if let Least::By(way) = due {
-            return Next::Due(Record { formula: f, way });
-        }
-        f += 1;
-    }
-    Next::Finished
 }

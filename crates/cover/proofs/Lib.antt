@@ -1,0 +1,7 @@
+pub mod Bitwise
+pub mod Membership
+pub mod Wanting
+pub mod Chained
+pub mod Premises
+pub mod Covered
+pub mod Once
