@@ -16,7 +16,7 @@ pub enum Number {
 }
 
 // Puts a text into out from a place on, and returns the place after it.
-fn put(text: &[u8], out: &mut [u8], at: usize) -> usize
+pub fn put(text: &[u8], out: &mut [u8], at: usize) -> usize
     requires { ⌜ at + length (now text) ≤ length (now out) ⌝ }
     ensures { λ r. ⌜ Put (now (text .entry)) at (now (out .entry)) r (now (out .exit)) ⌝ }
 {

@@ -1,0 +1,736 @@
+//! Real faults on the compiled night program: kills, cuts, old bytes, full and
+//! unwritable disks, system calls that fail, a held lock.
+//!
+//! It stands where the variable `BRIMUSKET_NIGHT` says, or at `target/bin/night`
+//! under the workspace; where it is missing, these tests fail. After every call
+//! the second program reads the journal file: each printed yes must be on record
+//! there, and the file must be the old one or the whole new one.
+
+use against::journals::{self, RECORD};
+use against::made_up;
+use against::rng::Rng;
+use second::fast;
+use second::slow::Policy;
+use std::env;
+use std::fs;
+use std::io::{Read, Write};
+use std::os::unix::fs::PermissionsExt;
+use std::os::unix::process::{CommandExt, ExitStatusExt};
+use std::path::{Path, PathBuf};
+use std::process::{Child, Command, Output, Stdio};
+use std::sync::atomic::{AtomicUsize, Ordering};
+use std::thread::sleep;
+use std::time::{Duration, Instant};
+
+/// A night's policy in the words of the request.
+const NIGHT: &str = include_str!("../../crates/night/data/night.policy");
+
+/// Bytes of the longest journal.
+const MOST: usize = RECORD * 4_096;
+
+fn workspace() -> PathBuf {
+    Path::new(env!("CARGO_MANIFEST_DIR")).join("..")
+}
+
+fn program() -> PathBuf {
+    let path = match env::var_os("BRIMUSKET_NIGHT") {
+        Some(path) => workspace().join(path),
+        None => workspace().join("target/bin/night"),
+    };
+    assert!(path.is_file(), "no night program at {}", path.display());
+    path
+}
+
+/// A folder of its own, removed at the end.
+struct Folder(PathBuf);
+
+impl Folder {
+    fn new() -> Folder {
+        static COUNT: AtomicUsize = AtomicUsize::new(0);
+        let count = COUNT.fetch_add(1, Ordering::Relaxed);
+        let name = format!("night-faults-{}-{count}", std::process::id());
+        let path = env::temp_dir().join(name);
+        fs::create_dir(&path).expect("a new folder");
+        Folder(path)
+    }
+
+    /// A folder with a policy file in it.
+    fn with(policy: &[u8]) -> Folder {
+        let folder = Folder::new();
+        fs::write(folder.policy(), policy).expect("the policy is written");
+        folder
+    }
+
+    fn policy(&self) -> PathBuf {
+        self.0.join("policy")
+    }
+
+    fn journal(&self) -> PathBuf {
+        self.0.join("journal")
+    }
+
+    fn new_file(&self) -> PathBuf {
+        self.0.join("journal.new")
+    }
+
+    /// What the journal file holds; a missing one is empty.
+    fn kept(&self) -> Vec<u8> {
+        fs::read(self.journal()).unwrap_or_default()
+    }
+
+    fn set(&self, journal: &[u8]) {
+        fs::write(self.journal(), journal).expect("the journal is written");
+    }
+
+    fn call(&self, limit: usize) -> Command {
+        call(&self.policy(), &self.journal(), &limit.to_string())
+    }
+}
+
+impl Drop for Folder {
+    fn drop(&mut self) {
+        let _ = fs::remove_dir_all(&self.0);
+    }
+}
+
+fn call(policy: &Path, journal: &Path, limit: &str) -> Command {
+    let mut command = Command::new(program());
+    command.arg(policy).arg(journal).arg(limit);
+    command
+}
+
+/// What the second program says: the text, and the journal as it is left.
+struct Expected {
+    text: String,
+    journal: Vec<u8>,
+    finished: bool,
+}
+
+fn expected(policy: &[u8], journal: &[u8], limit: usize) -> Expected {
+    let mut buffer = journal.to_vec();
+    buffer.resize(MOST, 0);
+    let queries = policy.split(|byte| *byte == b'\n');
+    let mut answers = vec![9; queries.filter(|line| line.starts_with(b"Q")).count()];
+    let report = fast::run(policy, &mut buffer, journal.len(), limit, &mut answers);
+    if report.code != 0 {
+        let text = format!("refused {} {}\n", report.code, report.place);
+        let journal = journal.to_vec();
+        return Expected {
+            text,
+            journal,
+            finished: false,
+        };
+    }
+    buffer.truncate(report.used);
+    let lines = answers.iter().zip(1..).map(|(answer, count)| {
+        let word = ["no", "yes", "open"][usize::from(*answer)];
+        format!("{count} {word}\n")
+    });
+    Expected {
+        text: lines.collect(),
+        journal: buffer,
+        finished: report.finished,
+    }
+}
+
+/// How many whole yes lines the text has; each must be on record in the journal.
+fn yes_on_record(text: &[u8], policy: &[u8], journal: &[u8]) -> usize {
+    let text = String::from_utf8_lossy(text);
+    let recorded = expected(policy, journal, 0).text;
+    let whole = text.split_inclusive('\n').filter(|l| l.ends_with('\n'));
+    let mut count = 0;
+    for line in whole.filter(|line| line.ends_with(" yes\n")) {
+        let mut lines = recorded.split_inclusive('\n');
+        assert!(lines.any(|other| other == line), "not on record: {line}");
+        count += 1;
+    }
+    count
+}
+
+/// The call goes through: the text and the file are as expected.
+fn goes_through(folder: &Folder, policy: &[u8], limit: usize) -> usize {
+    let old = folder.kept();
+    let said = folder.call(limit).output().expect("it runs");
+    let whole = expected(policy, &old, limit);
+    let wrong = String::from_utf8_lossy(&said.stderr).into_owned();
+    assert_eq!(wrong, "");
+    assert_eq!(String::from_utf8_lossy(&said.stdout), whole.text);
+    assert!(folder.kept() == whole.journal, "another journal");
+    assert!(!folder.new_file().exists());
+    yes_on_record(&said.stdout, policy, &folder.kept())
+}
+
+/// The call fails: no answer, this message, and the journal as it was.
+fn fails(command: &mut Command, folder: &Folder, message: &str) {
+    let old = fs::read(folder.journal()).ok();
+    let said = command.output().expect("it runs");
+    assert_eq!(String::from_utf8_lossy(&said.stdout), "");
+    assert_eq!(String::from_utf8_lossy(&said.stderr), message);
+    assert!(fs::read(folder.journal()).ok() == old, "{message}");
+}
+
+/// Prints a line that is seen also where the test passes.
+fn say(figures: &str) {
+    let _ = writeln!(std::io::stdout(), "night_faults: {figures}");
+}
+
+/// Policies of three sizes, with their uncut journals.
+fn policies(rng: &mut Rng) -> Vec<Vec<u8>> {
+    let mut found = vec![NIGHT.as_bytes().to_vec()];
+    for maker in [made_up::lenders, made_up::tangled, made_up::large] {
+        let good = |file: &Vec<u8>| {
+            let text = expected(file, &[], MOST).text;
+            text.contains("yes") && journals::finished(file).len() > 9 * RECORD
+        };
+        let file = (0..1_000).map(|_| maker(rng)).find(good);
+        found.push(file.expect("one with a yes"));
+    }
+    found
+}
+
+/// Ends the child after the delay, and gives back what it had printed.
+fn killed_after(mut child: Child, delay: Duration) -> (bool, Vec<u8>) {
+    let start = Instant::now();
+    if delay > Duration::from_micros(400) {
+        sleep(delay - Duration::from_micros(300));
+    }
+    while start.elapsed() < delay {
+        std::hint::spin_loop();
+    }
+    let _ = child.kill();
+    let status = child.wait().expect("it ends");
+    let mut text = Vec::new();
+    let mut pipe = child.stdout.take().expect("a pipe");
+    pipe.read_to_end(&mut text).expect("what it printed");
+    (status.signal().is_some(), text)
+}
+
+/// The file is the old journal or the whole new one.
+fn old_or_new(folder: &Folder, policy: &[u8], old: &[u8], limit: usize) -> Expected {
+    let whole = expected(policy, old, limit);
+    let kept = folder.kept();
+    assert!(kept == old || kept == whole.journal, "neither old nor new");
+    whole
+}
+
+#[test]
+#[cfg_attr(not(feature = "proved"), ignore = "needs the proved night program")]
+fn killed_at_random_moments() {
+    let mut rng = Rng::new(71);
+    let (mut kills, mut calls, mut yes, mut ends) = (0, 0, 0, 0);
+    for policy in policies(&mut rng) {
+        let folder = Folder::with(&policy);
+        let uncut = journals::finished(&policy);
+        let start = Instant::now();
+        yes += goes_through(&folder, &policy, MOST);
+        let most = start.elapsed().as_micros() as usize * 5 / 4;
+        folder.set(b"");
+        let mut here = 0;
+        while here < 60 {
+            let old = folder.kept();
+            let limit = rng.below(1 + uncut.len() / RECORD / 4);
+            let mut command = folder.call(limit);
+            let child = command.stdout(Stdio::piped()).spawn().expect("it starts");
+            let delay = Duration::from_micros(rng.below(most) as u64);
+            let (killed, text) = killed_after(child, delay);
+            old_or_new(&folder, &policy, &old, limit);
+            yes += yes_on_record(&text, &policy, &folder.kept());
+            here += usize::from(killed);
+            calls += 1;
+            assert!(calls < 4_000, "the program is never killed in time");
+            if expected(&policy, &folder.kept(), 0).finished {
+                assert!(folder.kept() == uncut, "another finished journal");
+                ends += 1;
+                folder.set(&uncut[..rng.below(uncut.len() / 2)]);
+            }
+        }
+        kills += here;
+        yes += goes_through(&folder, &policy, MOST);
+        assert!(folder.kept() == uncut, "another finished journal");
+    }
+    say(&format!(
+        "{calls} calls to be killed at random moments, {kills} killed; {yes} yes lines printed, 0 without their record; \
+         {ends} journals finished on the way and 4 at the end, all equal to the uncut ones"
+    ));
+}
+
+#[test]
+#[cfg_attr(not(feature = "proved"), ignore = "needs the proved night program")]
+fn truncated_at_every_byte() {
+    let mut rng = Rng::new(72);
+    let (mut cuts, mut yes) = (0, 0);
+    for policy in &policies(&mut rng)[..2] {
+        let folder = Folder::with(policy);
+        let uncut = journals::finished(policy);
+        for cut in 0..=uncut.len().min(200) {
+            folder.set(&uncut[..cut]);
+            yes += goes_through(&folder, policy, rng.below(3));
+            yes += goes_through(&folder, policy, MOST);
+            assert!(folder.kept() == uncut, "another finished journal");
+            cuts += 1;
+        }
+    }
+    say(&format!(
+        "{cuts} truncations; {yes} yes lines printed, 0 without their record; every finished journal equal to the uncut one"
+    ));
+}
+
+#[test]
+#[cfg_attr(not(feature = "proved"), ignore = "needs the proved night program")]
+fn filled_with_old_bytes() {
+    let mut rng = Rng::new(73);
+    let (mut files, mut yes) = (0, 0);
+    let policies = policies(&mut rng);
+    for bytes in &policies[..3] {
+        let folder = Folder::with(bytes);
+        let uncut = journals::finished(bytes);
+        let policy = Policy::read(bytes).expect("an accepted file");
+        for count in 0..40 {
+            let mut old = journals::any(&mut rng, &policy, &uncut);
+            match count % 4 {
+                0 => old = journals::finished(&policies[rng.below(policies.len())]),
+                1 => {
+                    let length = rng.below(MOST);
+                    old.extend(rng.bytes(length));
+                }
+                2 => old.resize(MOST, 0),
+                _ => {}
+            }
+            old.truncate(MOST);
+            folder.set(&old);
+            fs::write(folder.new_file(), &old).expect("what a crash left");
+            yes += goes_through(&folder, bytes, rng.below(30));
+            yes += goes_through(&folder, bytes, MOST);
+            files += 1;
+        }
+    }
+    say(&format!(
+        "{files} journals of old bytes; {yes} yes lines printed, 0 without their record"
+    ));
+}
+
+#[test]
+#[cfg_attr(not(feature = "proved"), ignore = "needs the proved night program")]
+fn wrong_arguments_and_files() {
+    let folder = Folder::with(NIGHT.as_bytes());
+    let (policy, journal) = (folder.policy(), folder.journal());
+    folder.set(&journals::finished(NIGHT.as_bytes())[..20]);
+    let usage = "night: usage: night POLICY JOURNAL [LIMIT]\n";
+    fails(&mut Command::new(program()), &folder, usage);
+    fails(Command::new(program()).arg(&policy), &folder, usage);
+    fails(folder.call(1).arg("more"), &folder, usage);
+    let no_number = "night: the limit is not a number of one to nine digits\n";
+    let texts = [
+        "",
+        "x",
+        "-1",
+        "+1",
+        " 1",
+        "1 ",
+        "1234567890",
+        "99999999999999999999",
+    ];
+    for text in texts {
+        fails(&mut call(&policy, &journal, text), &folder, no_number);
+    }
+    let nowhere = folder.0.join("none");
+    let message = format!(
+        "night: cannot open {}: No such file or directory\n",
+        nowhere.display()
+    );
+    fails(&mut call(&nowhere, &journal, "1"), &folder, &message);
+    let message = format!(
+        "night: cannot read {}: Is a directory\n",
+        folder.0.display()
+    );
+    fails(&mut call(&folder.0, &journal, "1"), &folder, &message);
+    fails(&mut call(&policy, &folder.0, "1"), &folder, &message);
+    let message = format!(
+        "night: cannot open the folder {}/: No such file or directory\n",
+        nowhere.display()
+    );
+    fails(
+        &mut call(&policy, &nowhere.join("journal"), "1"),
+        &folder,
+        &message,
+    );
+    let long = "x".repeat(5_000);
+    let message = "night: the policy's name: File name too long\n";
+    fails(&mut call(Path::new(&long), &journal, "1"), &folder, message);
+    let message = "night: the journal's name: File name too long\n";
+    fails(&mut call(&policy, Path::new(&long), "1"), &folder, message);
+    fails(
+        &mut call(Path::new(""), &journal, "1"),
+        &folder,
+        "night: cannot open : No such file or directory\n",
+    );
+    let others = 20;
+
+    folder.set(&vec![0; MOST + 1]);
+    let message = format!("night: more than 36864 bytes in {}\n", journal.display());
+    fails(&mut folder.call(1), &folder, &message);
+    folder.set(&vec![0; MOST]);
+    goes_through(&folder, NIGHT.as_bytes(), MOST);
+
+    let refusals: [(Vec<u8>, &str); 3] = [
+        (vec![b'x'; 32_769], "refused 1 0\n"),
+        (vec![b'x'; 100_000], "refused 1 0\n"),
+        (b"H b\nQ  b\n".to_vec(), "refused 2 4\n"),
+    ];
+    for (file, text) in refusals {
+        fs::write(&policy, file).expect("the policy is written");
+        let old = folder.kept();
+        let said = folder.call(1).output().expect("it runs");
+        assert_eq!(String::from_utf8_lossy(&said.stdout), text);
+        assert!(said.stderr.is_empty() && folder.kept() == old);
+        assert!(!folder.new_file().exists());
+    }
+    say(&format!(
+        "{} wrong calls, each with its message, and 3 refusals; nothing changed",
+        others + 1
+    ));
+}
+
+/// A call through a shell that first sets something.
+fn after(setting: &str, folder: &Folder) -> Command {
+    let mut command = Command::new("sh");
+    let text = format!("{setting}; exec \"$@\"");
+    command.args(["-c", &text, "sh"]).arg(program());
+    command.arg(folder.policy()).arg(folder.journal());
+    command
+}
+
+#[test]
+#[cfg_attr(not(feature = "proved"), ignore = "needs the proved night program")]
+fn full_disk() {
+    let mut rng = Rng::new(74);
+    let policy = policies(&mut rng).pop().expect("the large one");
+    let folder = Folder::with(&policy);
+    let uncut = journals::finished(&policy);
+    let message = format!(
+        "night: cannot write {}: File too large\n",
+        folder.new_file().display()
+    );
+    for blocks in [0, 1] {
+        for old in [&uncut[..0], &uncut[..uncut.len() / 2], &uncut] {
+            folder.set(old);
+            let setting = format!("trap '' XFSZ; ulimit -f {blocks}");
+            fails(&mut after(&setting, &folder), &folder, &message);
+            assert!(!folder.new_file().exists());
+        }
+    }
+    goes_through(&folder, &policy, MOST);
+    assert!(folder.kept() == uncut);
+    folder.set(b"");
+    let mut command = after("exec >/dev/full", &folder);
+    let said = command.output().expect("it runs");
+    let told = "night: cannot write standard output: No space left on device\n";
+    assert_eq!(String::from_utf8_lossy(&said.stderr), told);
+    assert!(folder.kept() == uncut);
+    let said = after("exec >&-", &folder).output().expect("it runs");
+    let told = "night: cannot write standard output: Bad file descriptor\n";
+    assert_eq!(String::from_utf8_lossy(&said.stderr), told);
+    assert!(folder.kept() == uncut);
+    say("6 calls on a full disk and 2 with a full or closed standard output: no answer, the journal whole");
+}
+
+/// The call by a user who may do nothing, where the test is run by root.
+fn by_nobody(folder: &Folder) -> Command {
+    let copy = folder.0.join("program");
+    fs::copy(program(), &copy).expect("a copy of the program");
+    let mut command = Command::new(copy);
+    command.arg(folder.policy()).arg(folder.journal());
+    let id = Command::new("id").arg("-u").output().expect("id runs");
+    if id.stdout == b"0\n" {
+        command.uid(65_534).gid(65_534);
+    }
+    command
+}
+
+fn mode(path: &Path, bits: u32) {
+    fs::set_permissions(path, fs::Permissions::from_mode(bits)).expect("another mode");
+}
+
+#[test]
+#[cfg_attr(not(feature = "proved"), ignore = "needs the proved night program")]
+fn made_unwritable() {
+    let folder = Folder::with(NIGHT.as_bytes());
+    folder.set(&journals::finished(NIGHT.as_bytes())[..30]);
+    let mut command = by_nobody(&folder);
+    let denied = |what: &str, path: &Path| {
+        format!(
+            "night: cannot {what} {}: Permission denied\n",
+            path.display()
+        )
+    };
+    mode(&folder.0, 0o555);
+    let message = denied("make", &folder.new_file());
+    fails(&mut command, &folder, &message);
+    mode(&folder.0, 0o755);
+    fs::write(folder.new_file(), b"left").expect("what a crash left");
+    mode(&folder.0, 0o555);
+    let message = denied("remove", &folder.new_file());
+    fails(&mut command, &folder, &message);
+    mode(&folder.0, 0o711);
+    let message = denied("open the folder", &folder.0.join(""));
+    let id = Command::new("id").arg("-u").output().expect("id runs");
+    if id.stdout == b"0\n" {
+        fails(&mut command, &folder, &message);
+    }
+    mode(&folder.0, 0o755);
+    mode(&folder.journal(), 0o000);
+    let message = denied("open", &folder.journal());
+    let said = command.output().expect("it runs");
+    assert_eq!(String::from_utf8_lossy(&said.stderr), message);
+    mode(&folder.journal(), 0o644);
+    mode(&folder.policy(), 0o000);
+    let message = denied("open", &folder.policy());
+    fails(&mut command, &folder, &message);
+    mode(&folder.policy(), 0o644);
+
+    fs::remove_file(folder.new_file()).expect("it is there");
+    fs::create_dir(folder.new_file()).expect("a folder in its place");
+    let message = format!(
+        "night: cannot remove {}: Is a directory\n",
+        folder.new_file().display()
+    );
+    fails(&mut folder.call(1), &folder, &message);
+    fs::remove_dir(folder.new_file()).expect("it is there");
+    fs::hard_link(folder.journal(), folder.new_file()).expect("a link");
+    goes_through(&folder, NIGHT.as_bytes(), 2);
+    goes_through(&folder, NIGHT.as_bytes(), MOST);
+    say("6 calls on unwritable and unreadable files and folders: no answer, the journal whole");
+}
+
+/// Whether strace can be used here.
+fn has_strace() -> bool {
+    let mut command = Command::new("strace");
+    command.args(["-o", "/dev/null", "true"]);
+    command.output().is_ok_and(|output| output.status.success())
+}
+
+/// The call with a fault at one system call, and whether the fault came.
+fn with_fault(
+    folder: &Folder,
+    limit: usize,
+    name: &str,
+    fault: &str,
+    count: usize,
+) -> (Output, bool) {
+    let log = folder.0.join("log");
+    let mut command = Command::new("strace");
+    command.arg("-o").arg(&log);
+    command.arg(format!("--trace={name}"));
+    command.arg(format!("--inject={name}:{fault}:when={count}"));
+    command
+        .arg(program())
+        .arg(folder.policy())
+        .arg(folder.journal());
+    command.arg(limit.to_string());
+    // Cargo sets it, and the loader would then look in many folders.
+    command.env_remove("LD_LIBRARY_PATH");
+    let said = command.output().expect("strace runs");
+    let log = fs::read_to_string(log).expect("its log");
+    let came = log.contains("(INJECTED)") || log.contains("killed by SIGKILL");
+    (said, came)
+}
+
+/// The system calls by which the program works on files.
+const CALLS: [&str; 7] = [
+    "openat", "read", "unlink", "write", "fsync", "rename", "close",
+];
+
+#[test]
+#[cfg_attr(not(feature = "proved"), ignore = "needs the proved night program")]
+fn every_system_call_fails_once() {
+    if !has_strace() {
+        say("no strace here: the calls that fail one by one are left out");
+        return;
+    }
+    let policy = NIGHT.as_bytes();
+    let uncut = journals::finished(policy);
+    let (mut faults, mut kills, mut yes) = (0, 0, 0);
+    for old in [&uncut[..31], &uncut] {
+        for name in CALLS {
+            for fault in ["error=EIO", "error=ENOSPC", "signal=SIGKILL"] {
+                for count in 1.. {
+                    let folder = Folder::with(policy);
+                    folder.set(old);
+                    let (said, came) = with_fault(&folder, 9, name, fault, count);
+                    if !came {
+                        break;
+                    }
+                    let whole = old_or_new(&folder, policy, old, 9);
+                    let text = String::from_utf8_lossy(&said.stdout).into_owned();
+                    assert!(text.is_empty() || text == whole.text, "{text}");
+                    yes += yes_on_record(&said.stdout, policy, &folder.kept());
+                    let forced = name == "fsync" || name == "rename";
+                    assert!(text.is_empty() || !forced, "an answer after {name}");
+                    let told = !said.stderr.is_empty() || !said.status.success();
+                    assert_eq!(told, text.is_empty(), "{name} {fault} {count}");
+                    goes_through(&folder, policy, MOST);
+                    assert!(folder.kept() == uncut, "another finished journal");
+                    faults += 1;
+                    kills += usize::from(fault == "signal=SIGKILL");
+                }
+            }
+        }
+    }
+    assert!(faults > 60, "only {faults} faults came");
+    say(&format!(
+        "{faults} system calls failed one by one, of which {kills} killed; {yes} yes lines printed, 0 without their record"
+    ));
+}
+
+#[test]
+#[cfg_attr(not(feature = "proved"), ignore = "needs the proved night program")]
+fn fsync_fails() {
+    if !has_strace() {
+        say("no strace here: fsync that fails is left out");
+        return;
+    }
+    let policy = NIGHT.as_bytes();
+    let uncut = journals::finished(policy);
+    let folder = Folder::with(policy);
+    for old in [&uncut[..0], &uncut] {
+        folder.set(old);
+        let (said, came) = with_fault(&folder, MOST, "fsync", "error=EIO", 1);
+        assert!(came && said.stdout.is_empty());
+        let message = format!(
+            "night: cannot fsync {}: Input/output error\n",
+            folder.new_file().display()
+        );
+        assert_eq!(String::from_utf8_lossy(&said.stderr), message);
+        assert!(folder.kept() == old && !folder.new_file().exists());
+        let (said, came) = with_fault(&folder, MOST, "fsync", "error=EIO", 2);
+        assert!(came && said.stdout.is_empty());
+        let message = format!(
+            "night: cannot fsync {}/: Input/output error\n",
+            folder.0.display()
+        );
+        assert_eq!(String::from_utf8_lossy(&said.stderr), message);
+        assert!(folder.kept() == uncut);
+    }
+    goes_through(&folder, policy, MOST);
+    say("fsync failed on the new file and on the folder: no answer, also where nothing was to be added");
+}
+
+/// A call of the script.
+fn script(folder: &Folder, limit: &str) -> Command {
+    let mut command = Command::new(workspace().join("bin/night"));
+    command.env("NIGHT_PROGRAM", program());
+    command
+        .arg(folder.policy())
+        .arg(folder.journal())
+        .arg(limit);
+    command
+}
+
+#[test]
+#[cfg_attr(not(feature = "proved"), ignore = "needs the proved night program")]
+fn the_script_tells_by_its_status() {
+    let policy = NIGHT.as_bytes();
+    let folder = Folder::with(policy);
+    let run = |limit: &str| {
+        let said = script(&folder, limit).output().expect("it runs");
+        let text = String::from_utf8_lossy(&said.stdout).into_owned();
+        let wrong = String::from_utf8_lossy(&said.stderr).into_owned();
+        (said.status.code(), text, wrong)
+    };
+    let whole = expected(policy, &[], MOST);
+    assert_eq!(run("4096"), (Some(0), whole.text.clone(), String::new()));
+    assert!(folder.kept() == whole.journal);
+    assert_eq!(run("x").0, Some(2));
+    let mut command = script(&folder, "1");
+    let said = command
+        .env("NIGHT_PROGRAM", "/none")
+        .output()
+        .expect("it runs");
+    assert_eq!(said.status.code(), Some(2));
+    let mut command = script(&folder, "1");
+    let said = command
+        .env("NIGHT_PROGRAM", "/bin/false")
+        .output()
+        .expect("it runs");
+    assert_eq!(said.status.code(), Some(2));
+
+    let lock = folder.0.join("journal.lock");
+    let mut holder = Command::new("flock");
+    holder.arg(&lock).arg("cat");
+    let mut holder = holder
+        .stdin(Stdio::piped())
+        .stdout(Stdio::piped())
+        .spawn()
+        .expect("flock runs");
+    let mut input = holder.stdin.take().expect("a pipe");
+    input.write_all(b"x").expect("it takes a byte");
+    let mut byte = [0];
+    holder
+        .stdout
+        .as_mut()
+        .expect("a pipe")
+        .read_exact(&mut byte)
+        .expect("the lock is held");
+    let message = format!(
+        "night: another call holds {}: wait for it to end, then call again\n",
+        lock.display()
+    );
+    assert_eq!(run("1"), (Some(3), String::new(), message));
+    drop(input);
+    holder.wait().expect("it ends");
+    assert_eq!(run("1"), (Some(0), whole.text.clone(), String::new()));
+
+    fs::write(folder.policy(), b"H b\nQ  b\n").expect("a policy");
+    assert_eq!(run("1"), (Some(1), "refused 2 4\n".into(), String::new()));
+    fs::write(folder.policy(), b"H b\n").expect("a policy");
+    assert_eq!(run("1"), (Some(0), String::new(), String::new()));
+    say("the script's statuses 0, 1, 2 and 3, each with its text");
+}
+
+#[test]
+#[cfg_attr(not(feature = "proved"), ignore = "needs the proved night program")]
+fn many_callers_at_once() {
+    let mut rng = Rng::new(75);
+    let policy = policies(&mut rng).pop().expect("the large one");
+    let folder = Folder::with(&policy);
+    let uncut = journals::finished(&policy);
+    let limit = (uncut.len() / RECORD / 8).to_string();
+    let (mut answered, mut held, mut yes) = (0, 0, 0);
+    for _ in 0..8 {
+        let start = |_| {
+            let mut command = script(&folder, &limit);
+            command.stdout(Stdio::piped()).stderr(Stdio::piped());
+            command.spawn().expect("it starts")
+        };
+        let mut children: Vec<Child> = (0..4).map(start).collect();
+        let _ = children[0].kill();
+        for child in children {
+            let said = child.wait_with_output().expect("it ends");
+            yes += yes_on_record(&said.stdout, &policy, &folder.kept());
+            match said.status.code() {
+                Some(0) => answered += 1,
+                Some(3) => held += 1,
+                code => assert_eq!(code, None, "{said:?}"),
+            }
+        }
+    }
+    let kept = folder.kept();
+    assert!(uncut.starts_with(&kept) && kept.len().is_multiple_of(RECORD));
+    let start = Instant::now();
+    while script(&folder, "4096")
+        .output()
+        .expect("it runs")
+        .status
+        .code()
+        == Some(3)
+    {
+        assert!(
+            start.elapsed() < Duration::from_secs(9),
+            "the lock is never free"
+        );
+    }
+    assert!(folder.kept() == uncut);
+    say(&format!(
+        "32 callers at once, 8 of them killed: {answered} answered, {held} were told to wait; {yes} yes lines printed, 0 without their record"
+    ));
+}
