@@ -13,7 +13,14 @@ fn root() -> PathBuf {
 fn the_second_desk_case_runs_through_the_header() {
     let program = Path::new(env!("CARGO_TARGET_TMPDIR")).join("case2");
     let compiled = Command::new("cc")
-        .args(["-std=c99", "-Wall", "-Wextra", "-Werror", "-pedantic", "-O2"])
+        .args([
+            "-std=c99",
+            "-Wall",
+            "-Wextra",
+            "-Werror",
+            "-pedantic",
+            "-O2",
+        ])
         .arg("-I")
         .arg(root().join("include"))
         .arg(root().join("tests/c/case2.c"))
