@@ -221,10 +221,8 @@ fn killed_at_random_moments() {
     for policy in policies(&mut rng) {
         let folder = Folder::with(&policy);
         let uncut = journals::finished(&policy);
-        let start = Instant::now();
-        yes += goes_through(&folder, &policy, MOST);
-        let most = start.elapsed().as_micros() as usize * 5 / 4;
-        folder.set(b"");
+        // About twice as long as a call takes: it grows with each kill, and shrinks with each call that came through.
+        let mut most = 4_000;
         let mut here = 0;
         while here < 60 {
             let old = folder.kept();
@@ -235,6 +233,11 @@ fn killed_at_random_moments() {
             let (killed, text) = killed_after(child, delay);
             old_or_new(&folder, &policy, &old, limit);
             yes += yes_on_record(&text, &policy, &folder.kept());
+            most = if killed {
+                most + most / 20
+            } else {
+                most - most / 20
+            };
             here += usize::from(killed);
             calls += 1;
             assert!(calls < 4_000, "the program is never killed in time");
@@ -364,7 +367,7 @@ fn wrong_arguments_and_files() {
         &folder,
         "night: cannot open : No such file or directory\n",
     );
-    let others = 20;
+    let others = 3 + texts.len() + 7;
 
     folder.set(&vec![0; MOST + 1]);
     let message = format!("night: more than 36864 bytes in {}\n", journal.display());
@@ -411,6 +414,7 @@ fn full_disk() {
         "night: cannot write {}: File too large\n",
         folder.new_file().display()
     );
+    assert!(uncut.len() > 1_024, "longer than a block");
     for blocks in [0, 1] {
         for old in [&uncut[..0], &uncut[..uncut.len() / 2], &uncut] {
             folder.set(old);

@@ -1,2 +1,3 @@
 pub mod Settling
 pub mod Folder
+pub mod Written

@@ -4,20 +4,17 @@ use Prim.Native.Nat.{ℕ, _+_, _*_, _≤_}
 use native.Mathlib.Nat.{mul-add}
 use mathlib.Core.Path.{_≡_, sym, ap}
 use mathlib.Core.List.{List}
-use lib.ListN.{length}
+use lib.ListN.{length, replicate}
 use lib.Dec.{ltb}
 use lib.Seq.{length-take-le}
 use borrow.Author.Tests.{ltb-false}
-use Rattle.infon.specs.declared.Report.{Report}
 use Rattle.infon.specs.Journal.{recordBytes, spelledAll}
-use Rattle.infon.specs.Run.{Outcome, code9, refusal, written, success}
+use Rattle.infon.specs.Run.{Outcome, code9, refusal, success}
 use Rattle.infon.proofs.Codec.{length-spelledAll}
 use Rattle.infon.proofs.Cuts.{length-written, when-passed, run-cases}
 use Rattle.printing.specs.Placed.{Prints}
 use Rattle.printing.specs.Printed.{noAnswer, printedRun, printedOf}
 use Rattle.night.specs.Night.{nightRun, nightText, Settles}
-use Rattle.night.specs.declared.Settlement.{Settlement}
-use lib.ListN.{replicate}
 
 -- where the used bytes lie within the buffer, they still do after a run
 pub used-within : (file journal : List ℕ) (used limit : ℕ) → used ≤ length journal

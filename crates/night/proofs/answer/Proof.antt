@@ -1,7 +1,6 @@
 -- `night::answer` meets its contract: it settles what the run left and what is printed of that.
 -- Assumes nothing.
 use borrow.Author.Needs.{needs}
-use Rattle.run.specs.Prepared.{left}
 use Rattle.printing.specs.Printed.{noAnswer}
 use Rattle.night.specs.Night.{nightRun}
 use Rattle.night.proofs.Settling.{settles}
