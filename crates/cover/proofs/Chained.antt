@@ -27,7 +27,7 @@ module _ (t : List ℕ) (column x f n : ℕ) where
   unfolding along
   along-over i h = let e : n - i ≡ 0 = omega arith in rw e
 
-  along-here : (i : ℕ) → i < n → cell t column i ≡ x → alongFrom i ≡ meeting t f i ++ alongFrom (suc i)
+  along-here : (i : ℕ) → i < n → cell t column i ≡ x → alongFrom i ≡ meeting t column f i ++ alongFrom (suc i)
   unfolding along
   along-here i h here = let e : n - i ≡ suc (n - suc i) = omega arith in rw (e, eq-eqb (cell t column i) x here)
 
@@ -83,16 +83,16 @@ module _ (t : List ℕ) (column x f n : ℕ) where
       pub meeting-further : g < next
       meeting-further = goes-on t column x n g next low first-after
 
-      pub meeting-turn : {after : List ℕ} → after ≡ wantedAll t n marks cover (meeting t f g) → Meeting marks cover₀ after next
+      pub meeting-turn : {after : List ℕ} → after ≡ wantedAll t n marks cover (meeting t column f g) → Meeting marks cover₀ after next
       meeting-turn {after} e =
           record {
             whole =
                 meets .whole
                 ∙ (ap (wantedAll t n marks cover) (along-here g low (meets .here low))
-                ∙ (all-append t n marks (meeting t f g) (alongFrom (suc g)) cover
+                ∙ (all-append t n marks (meeting t column f g) (alongFrom (suc g)) cover
                 ∙ (ap (λ (c : List ℕ). wantedAll t n marks c (alongFrom (suc g))) (sym e)
                 ∙ ap (wantedAll t n marks after) (to-next (suc g) next (omega arith) first-after))));
-            long = ap length e ∙ (all-long t n marks (meeting t f g) cover ∙ meets .long);
+            long = ap length e ∙ (all-long t n marks (meeting t column f g) cover ∙ meets .long);
             here = λ h. first-after .here h .1;
           }
 

@@ -18,7 +18,7 @@ use Rattle.table.specs.Tests.{givesIn, isMarked, premisesMarked, leadsTo, goodI
 use Rattle.table.proofs.Given.{marked-below}
 use Rattle.ways.specs.Search.{isWhole}
 use Rattle.ways.proofs.Leads.{weaken-bottom, whole-part, both-parts, apply-parts, attach-parts}
-use Rattle.cover.specs.Touched.{partsBy, meeting, along, touching, takingIn, takingAll}
+use Rattle.cover.specs.Touched.{partsBy, wholeBy, meeting, along, touching, takingIn, takingAll}
 
 -- a record is for a formula by a way
 abbrev pub by : ℕ → Way → Record
@@ -50,7 +50,7 @@ module _ (t : List ℕ) (n : ℕ) (marks : List ℕ) (g : ℕ) (way : Way) where
 
 module _ (t : List ℕ) (n : ℕ) where
   -- the records of f and g are on the row of a column that g holds
-  on-row : (column x f : ℕ) (r : Record) (g count i : ℕ) → i ≤ g → g < i + count → cell t column g ≡ x → List·Memᴰ r (meeting t f g)
+  on-row : (column x f : ℕ) (r : Record) (g count i : ℕ) → i ≤ g → g < i + count → cell t column g ≡ x → List·Memᴰ r (meeting t column f g)
       → List·Memᴰ r (along t column x f i count)
   unfolding along
   on-row column x f r g zero i low high here there = absurd (omega arith)
@@ -59,21 +59,21 @@ module _ (t : List ℕ) (n : ℕ) where
       (λ (e : eqb i g ≡ true).
       let same = eqb-true i g e in
       put (eqb (cell t column i) x)
-      (λ _. subst (λ (j : ℕ). List·Memᴰ r (meeting t f j)) (sym same) there)
+      (λ _. subst (λ (j : ℕ). List·Memᴰ r (meeting t column f j)) (sym same) there)
       (λ h. absurd (eqb-false (cell t column i) x h (ap (cell t column) same ∙ here))))
       (λ (e : eqb i g ≡ false).
       let apart = eqb-false i g e in
       later (eqb (cell t column i) x) (on-row column x f r g count (suc i) (omega (arith, apart)) (omega arith) here there))
       (decided (eqb i g))
     where
-      put : (b : Bool) → (b ≡ true → List·Memᴰ r (meeting t f i)) → (b ≡ false → ⊥)
-          → List·Memᴰ r (cond b (meeting t f i ++ along t column x f (suc i) count) (along t column x f (suc i) count))
+      put : (b : Bool) → (b ≡ true → List·Memᴰ r (meeting t column f i)) → (b ≡ false → ⊥)
+          → List·Memᴰ r (cond b (meeting t column f i ++ along t column x f (suc i) count) (along t column x f (suc i) count))
       put true held failed = Memᴰ·append-left (along t column x f (suc i) count) (held refl)
       put false held failed = absurd (failed refl)
 
       later : (b : Bool) → List·Memᴰ r (along t column x f (suc i) count)
-          → List·Memᴰ r (cond b (meeting t f i ++ along t column x f (suc i) count) (along t column x f (suc i) count))
-      later true m = Memᴰ·append-right (meeting t f i) m
+          → List·Memᴰ r (cond b (meeting t column f i ++ along t column x f (suc i) count) (along t column x f (suc i) count))
+      later true m = Memᴰ·append-right (meeting t column f i) m
       later false m = m
 
   module _ (f : ℕ) (r : Record) where
@@ -81,43 +81,50 @@ module _ (t : List ℕ) (n : ℕ) where
     unfolding touching
     in-parts m = Memᴰ·append-left _ m
 
-    in-meeting : List·Memᴰ r (meeting t f f) → List·Memᴰ r (touching t n f)
+    in-whole : List·Memᴰ r (wholeBy t f) → List·Memᴰ r (touching t n f)
     unfolding touching
-    in-meeting m = Memᴰ·append-right (partsBy t f) (Memᴰ·append-left _ m)
+    in-whole m = Memᴰ·append-right (partsBy t f) (Memᴰ·append-left _ m)
 
     in-lefts : List·Memᴰ r (along t 2 f f 0 n) → List·Memᴰ r (touching t n f)
     unfolding touching
-    in-lefts m = Memᴰ·append-right (partsBy t f) (Memᴰ·append-right (meeting t f f) (Memᴰ·append-left _ m))
+    in-lefts m = Memᴰ·append-right (partsBy t f) (Memᴰ·append-right (wholeBy t f) (Memᴰ·append-left _ m))
 
     in-rights : List·Memᴰ r (along t 3 f f 0 n) → List·Memᴰ r (touching t n f)
     unfolding touching
     in-rights m =
         Memᴰ·append-right (partsBy t f)
-        (Memᴰ·append-right (meeting t f f) (Memᴰ·append-right (along t 2 f f 0 n) (Memᴰ·append-left _ m)))
+        (Memᴰ·append-right (wholeBy t f) (Memᴰ·append-right (along t 2 f f 0 n) (Memᴰ·append-left _ m)))
 
     in-bottoms : List·Memᴰ r (along t 4 (cell t 4 f) f 0 n) → List·Memᴰ r (touching t n f)
     unfolding touching
     in-bottoms m =
         Memᴰ·append-right (partsBy t f)
-        (Memᴰ·append-right (meeting t f f) (Memᴰ·append-right (along t 2 f f 0 n) (Memᴰ·append-right (along t 3 f f 0 n) m)))
+        (Memᴰ·append-right (wholeBy t f) (Memᴰ·append-right (along t 2 f f 0 n) (Memᴰ·append-right (along t 3 f f 0 n) m)))
 
-  -- the four records of f and g
-  weaken-met : (f g : ℕ) → List·Memᴰ (by g (Weaken f)) (meeting t f g)
+  -- the records of f and g
+  weaken-met : (f g : ℕ) → List·Memᴰ (by g (Weaken f)) (meeting t 4 f g)
   unfolding meeting
   weaken-met f g = List·Memᴰ·head refl
 
-  both-met : (f g p q : ℕ) → cell t 2 g ≡ p → cell t 3 g ≡ q → List·Memᴰ (by g (Both p q)) (meeting t f g)
+  left-met : (f g : ℕ) (r : Record) → List·Memᴰ r (wholeBy t g) → List·Memᴰ r (meeting t 2 f g)
   unfolding meeting
-  both-met f g p q left right = List·Memᴰ·tail (List·Memᴰ·head (λ i. by g (Both (sym left i) (sym right i))))
+  left-met f g r m = m
 
-  attach-met : (f g p : ℕ) → cell t 3 g ≡ p → List·Memᴰ (by g (Attach p)) (meeting t f g)
+  right-met : (f g : ℕ) (r : Record) → List·Memᴰ r (wholeBy t g) → List·Memᴰ r (meeting t 3 f g)
   unfolding meeting
-  attach-met f g p right = List·Memᴰ·tail (List·Memᴰ·tail (List·Memᴰ·head (λ i. by g (Attach (sym right i)))))
+  right-met f g r m = m
 
-  apply-met : (f g p q : ℕ) → cell t 2 q ≡ p → cell t 3 q ≡ g → List·Memᴰ (by g (Apply p q)) (meeting t f q)
-  unfolding meeting
-  apply-met f g p q left right =
-      List·Memᴰ·tail (List·Memᴰ·tail (List·Memᴰ·tail (List·Memᴰ·head (λ i. by (sym right i) (Apply (sym left i) q)))))
+  both-whole : (g p q : ℕ) → cell t 2 g ≡ p → cell t 3 g ≡ q → List·Memᴰ (by g (Both p q)) (wholeBy t g)
+  unfolding wholeBy
+  both-whole g p q left right = List·Memᴰ·head (λ i. by g (Both (sym left i) (sym right i)))
+
+  attach-whole : (g p : ℕ) → cell t 3 g ≡ p → List·Memᴰ (by g (Attach p)) (wholeBy t g)
+  unfolding wholeBy
+  attach-whole g p right = List·Memᴰ·tail (List·Memᴰ·head (λ i. by g (Attach (sym right i))))
+
+  apply-whole : (g p q : ℕ) → cell t 2 q ≡ p → cell t 3 q ≡ g → List·Memᴰ (by g (Apply p q)) (wholeBy t q)
+  unfolding wholeBy
+  apply-whole g p q left right = List·Memᴰ·tail (List·Memᴰ·tail (List·Memᴰ·head (λ i. by (sym right i) (Apply (sym left i) q))))
 
   -- a record that has f as a premise is among those that touching f wants
   module _ (marks : List ℕ) (g : ℕ) where
@@ -142,31 +149,31 @@ module _ (t : List ℕ) (n : ℕ) where
     by-both-first p q low h =
         let parts = both-parts t n marks g p q h in
         in-lefts p (by g (Both p q))
-        (on-row 2 p p (by g (Both p q)) g n 0 (omega arith) (omega arith) (parts .left-is) (both-met p g p q (parts .left-is) (parts .right-is)))
+        (on-row 2 p p (by g (Both p q)) g n 0 (omega arith) (omega arith) (parts .left-is) (left-met p g (by g (Both p q)) (both-whole g p q (parts .left-is) (parts .right-is))))
 
     pub by-both-second : (p q : ℕ) → g < n → leadsTo t n marks g (Both p q) ≡ true → List·Memᴰ (by g (Both p q)) (touching t n q)
     by-both-second p q low h =
         let parts = both-parts t n marks g p q h in
         in-rights q (by g (Both p q))
-        (on-row 3 q q (by g (Both p q)) g n 0 (omega arith) (omega arith) (parts .right-is) (both-met q g p q (parts .left-is) (parts .right-is)))
+        (on-row 3 q q (by g (Both p q)) g n 0 (omega arith) (omega arith) (parts .right-is) (right-met q g (by g (Both p q)) (both-whole g p q (parts .left-is) (parts .right-is))))
 
     pub by-apply-first : (p q : ℕ) → leadsTo t n marks g (Apply p q) ≡ true → List·Memᴰ (by g (Apply p q)) (touching t n p)
     by-apply-first p q h =
         let parts = apply-parts t n marks g p q h in
         let low = marked-below n marks q (parts .second-marked) in
         in-lefts p (by g (Apply p q))
-        (on-row 2 p p (by g (Apply p q)) q n 0 (omega arith) (omega arith) (parts .left-is) (apply-met p g p q (parts .left-is) (parts .right-is)))
+        (on-row 2 p p (by g (Apply p q)) q n 0 (omega arith) (omega arith) (parts .left-is) (left-met p q (by g (Apply p q)) (apply-whole g p q (parts .left-is) (parts .right-is))))
 
     pub by-apply-second : (p q : ℕ) → leadsTo t n marks g (Apply p q) ≡ true → List·Memᴰ (by g (Apply p q)) (touching t n q)
     by-apply-second p q h =
         let parts = apply-parts t n marks g p q h in
-        in-meeting q (by g (Apply p q)) (apply-met q g p q (parts .left-is) (parts .right-is))
+        in-whole q (by g (Apply p q)) (apply-whole g p q (parts .left-is) (parts .right-is))
 
     pub by-attach : (p : ℕ) → g < n → leadsTo t n marks g (Attach p) ≡ true → List·Memᴰ (by g (Attach p)) (touching t n p)
     by-attach p low h =
         let right = attach-parts t n marks g p h .1 .1 in
         in-rights p (by g (Attach p))
-        (on-row 3 p p (by g (Attach p)) g n 0 (omega arith) (omega arith) right (attach-met p g p right))
+        (on-row 3 p p (by g (Attach p)) g n 0 (omega arith) (omega arith) right (right-met p g (by g (Attach p)) (attach-whole g p right)))
 
   -- and so it is among those that all formulas want
   module _ (marks : List ℕ) (r : Record) where

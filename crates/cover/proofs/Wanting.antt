@@ -7,6 +7,7 @@ use mathlib.Core.Bool.{Bool, true, false, cond}
 use mathlib.Core.List.{List, [], _∷_, _++_, List·Memᴰ, List·Memᴰ·not-nil, List·Memᴰ·cases-cons}
 use native.Mathlib.Omega.{arith}
 use lib.ListN.{length, length-set}
+use borrow.Author.Tests.{eq-eqb, ne-eqb}
 use Rattle.infon.specs.declared.Way.the-variants.{Hypothesis, Given, Weaken, Left, Right, Both, Apply, Attach}
 use Rattle.infon.specs.declared.Record.{Record}
 use Rattle.infon.proofs.Rows.{decided}
@@ -14,7 +15,7 @@ use Rattle.table.specs.Table.{cell}
 use Rattle.table.specs.Tests.{isMarked, goodIn}
 use Rattle.table.proofs.Given.{good-below}
 use Rattle.cover.specs.Members.{isIn, withNumber, withoutMember}
-use Rattle.cover.specs.Touched.{wanted, wantedAll, partsBy, meeting, along, touching, takingIn}
+use Rattle.cover.specs.Touched.{wanted, wantedAll, partsBy, wholeBy, meeting, along, touching, takingIn}
 use Rattle.cover.proofs.Membership.{with-has, with-keeps}
 
 pub with-long : (cover : List ℕ) (i : ℕ) → length (withNumber cover i) ≡ length cover
@@ -105,17 +106,26 @@ module _ (t : List ℕ) (n : ℕ) (marks : List ℕ) where
     unfolding wantedAll partsBy
     parts-wanted first second = rw (← is-left, ← is-right, ← first) second
 
-  module _ (cover : List ℕ) (f g : ℕ) {one two three four : List ℕ} {left right : ℕ} (is-left : left ≡ cell t 2 g) (is-right : right ≡ cell t 3 g) where
-    pub meeting-wanted : one ≡ wanted t n marks cover (record { formula = g; way = Weaken f })
-        → two ≡ wanted t n marks one (record { formula = g; way = Both left right })
-        → three ≡ wanted t n marks two (record { formula = g; way = Attach right })
-        → four ≡ wanted t n marks three (record { formula = right; way = Apply left g })
-        → four ≡ wantedAll t n marks cover (meeting t f g)
+  pub whole-wanted : (cover : List ℕ) (g : ℕ) {one two three : List ℕ} {left right : ℕ} → left ≡ cell t 2 g → right ≡ cell t 3 g
+      → one ≡ wanted t n marks cover (record { formula = g; way = Both left right })
+      → two ≡ wanted t n marks one (record { formula = g; way = Attach right })
+      → three ≡ wanted t n marks two (record { formula = right; way = Apply left g }) → three ≡ wantedAll t n marks cover (wholeBy t g)
+  unfolding wantedAll wholeBy
+  whole-wanted cover g is-left is-right first second third = rw (← is-left, ← is-right, ← first, ← second) third
+
+  module _ (cover : List ℕ) (column f g : ℕ) {after : List ℕ} where
+    pub bottom-met : column ≡ 4 → after ≡ wanted t n marks cover (record { formula = g; way = Weaken f })
+        → after ≡ wantedAll t n marks cover (meeting t column f g)
     unfolding wantedAll meeting
-    meeting-wanted first second third fourth = rw (← is-left, ← is-right, ← first, ← second, ← third) fourth
+    bottom-met e is = rw (eq-eqb column 4 e) is
+
+    pub whole-met : (column ≡ 4 → ⊥) → after ≡ wantedAll t n marks cover (wholeBy t g)
+        → after ≡ wantedAll t n marks cover (meeting t column f g)
+    unfolding meeting
+    whole-met other is = rw (ne-eqb column 4 other) is
 
   pub touching-wanted : (cover : List ℕ) (f : ℕ) {one two three four five : List ℕ} {bottom : ℕ} → bottom ≡ cell t 4 f
-      → one ≡ wantedAll t n marks cover (partsBy t f) → two ≡ wantedAll t n marks one (meeting t f f)
+      → one ≡ wantedAll t n marks cover (partsBy t f) → two ≡ wantedAll t n marks one (wholeBy t f)
       → three ≡ wantedAll t n marks two (along t 2 f f 0 n) → four ≡ wantedAll t n marks three (along t 3 f f 0 n)
       → five ≡ wantedAll t n marks four (along t 4 bottom f 0 n) → five ≡ wantedAll t n marks cover (touching t n f)
   unfolding touching
@@ -123,7 +133,7 @@ module _ (t : List ℕ) (n : ℕ) (marks : List ℕ) where
       rw (
         all-append (partsBy t f) _ cover,
         ← first,
-        all-append (meeting t f f),
+        all-append (wholeBy t f),
         ← second,
         all-append (along t 2 f f 0 n),
         ← third,

@@ -30,25 +30,28 @@ wantedAll t n marks cover (r ∷ rest) = wantedAll t n marks (wanted t n marks c
 unfoldable pub partsBy : List ℕ → ℕ → List Record
 partsBy t f = record { formula = cell t leftAt f; way = Left f } ∷ (record { formula = cell t rightAt f; way = Right f } ∷ [])
 
--- the records that f and g may give together: g weakened from f, g from its parts, and what g as an implication ends in
-unfoldable pub meeting : List ℕ → ℕ → ℕ → List Record
-meeting t f g =
-    record { formula = g; way = Weaken f }
-    ∷ (record { formula = g; way = Both (cell t leftAt g) (cell t rightAt g) }
+-- the records by rules 6, 8 and 7 that a whole may give: itself from its parts, and what it ends in as an implication
+unfoldable pub wholeBy : List ℕ → ℕ → List Record
+wholeBy t g =
+    record { formula = g; way = Both (cell t leftAt g) (cell t rightAt g) }
     ∷ (record { formula = g; way = Attach (cell t rightAt g) }
-    ∷ (record { formula = cell t rightAt g; way = Apply (cell t leftAt g) g } ∷ [])))
+    ∷ (record { formula = cell t rightAt g; way = Apply (cell t leftAt g) g } ∷ []))
+
+-- the records that f and a g of one of its chains may give: g weakened from f where they share a bottom, else those of the whole
+unfoldable pub meeting : List ℕ → ℕ → ℕ → ℕ → List Record
+meeting t column f g = cond (eqb column bottomAt) (record { formula = g; way = Weaken f } ∷ []) (wholeBy t g)
 
 -- those of f and each g from i on, count of them, that has x in a column
 unfoldable pub along : List ℕ → ℕ → ℕ → ℕ → ℕ → ℕ → List Record
 along t column x f i zero = []
 along t column x f i (suc count) =
-    cond (eqb (cell t column i) x) (meeting t f i ++ along t column x f (suc i) count) (along t column x f (suc i) count)
+    cond (eqb (cell t column i) x) (meeting t column f i ++ along t column x f (suc i) count) (along t column x f (suc i) count)
 
 -- every record that has f as a premise is one of these
 unfoldable pub touching : List ℕ → ℕ → ℕ → List Record
 touching t n f =
     partsBy t f
-    ++ (meeting t f f
+    ++ (wholeBy t f
     ++ (along t leftAt f f 0 n ++ (along t rightAt f f 0 n ++ along t bottomAt (cell t bottomAt f) f 0 n)))
 
 -- the records without a premise, and those of a premise that is marked

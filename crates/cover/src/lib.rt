@@ -14,7 +14,7 @@ ghost use lib.ListN.{length};
 ghost use Rattle.links.specs.Chains.{ChainOf, Ready};
 ghost use Rattle.cover.specs.Members.{isIn, withNumber, withoutMember, LeastIn};
 ghost use Rattle.cover.specs.Found.{Found};
-ghost use Rattle.cover.specs.Touched.{Covers, wanted, wantedAll, partsBy, meeting, along, touching, takingIn, takingAll};
+ghost use Rattle.cover.specs.Touched.{Covers, wanted, wantedAll, partsBy, wholeBy, meeting, along, touching, takingIn, takingAll};
 
 // The answer to "The next record, if any".
 pub enum Next {
@@ -108,23 +108,13 @@ fn want_parts(table: &[u16], n: usize, marks: &[u8], cover: &mut [u64], f: usize
     );
 }
 
-// Rules 3, 6, 8 and 7: wants g where f weakens to it or its parts give it, and what g ends in where its condition gives that.
-fn meet(table: &[u16], n: usize, marks: &[u8], cover: &mut [u64], f: usize, g: usize)
+// Rules 6, 8 and 7: wants g where its parts give it, and what g ends in where its condition gives that.
+fn want_whole(table: &[u16], n: usize, marks: &[u8], cover: &mut [u64], g: usize)
     requires { ⌜ (24576 ≤ length (now table)) × (n ≤ 4096) × (n ≤ length (now marks)) × (64 ≤ length (now cover)) × (g < n) ⌝ }
-    ensures { λ _. ⌜ now (cover .exit) ≡ wantedAll (now (table .entry)) n (now (marks .entry)) (now (cover .entry)) (meeting (now (table .entry)) f g) ⌝ }
+    ensures { λ _. ⌜ now (cover .exit) ≡ wantedAll (now (table .entry)) n (now (marks .entry)) (now (cover .entry)) (wholeBy (now (table .entry)) g) ⌝ }
 {
     let left = rules::cell_at(table, LEFT, g);
     let right = rules::cell_at(table, RIGHT, g);
-    want(
-        table,
-        n,
-        marks,
-        cover,
-        Record {
-            formula: g,
-            way: Way::Weaken(f),
-        },
-    );
     want(
         table,
         n,
@@ -157,6 +147,27 @@ fn meet(table: &[u16], n: usize, marks: &[u8], cover: &mut [u64], f: usize, g: u
     );
 }
 
+// Rule 3 along the chain of f's bottom, rules 6 to 8 along the chains of f as a part.
+fn meet(table: &[u16], n: usize, marks: &[u8], cover: &mut [u64], column: usize, f: usize, g: usize)
+    requires { ⌜ (24576 ≤ length (now table)) × (n ≤ 4096) × (n ≤ length (now marks)) × (64 ≤ length (now cover)) × (g < n) ⌝ }
+    ensures { λ _. ⌜ now (cover .exit) ≡ wantedAll (now (table .entry)) n (now (marks .entry)) (now (cover .entry)) (meeting (now (table .entry)) column f g) ⌝ }
+{
+    if column == BOTTOM {
+        want(
+            table,
+            n,
+            marks,
+            cover,
+            Record {
+                formula: g,
+                way: Way::Weaken(f),
+            },
+        );
+    } else {
+        want_whole(table, n, marks, cover, g);
+    }
+}
+
 // Meets f with each formula that has x in a column, along its chain.
 fn meet_chain(
     table: &[u16],
@@ -176,7 +187,7 @@ fn meet_chain(
     let at = (column - LEFT) * CHAINS;
     let mut g = links::linked_at(links, at + x);
     while g < n {
-        meet(table, n, marks, cover, f, g);
+        meet(table, n, marks, cover, column, f, g);
         g = links::linked_at(links, at + NEXTS + g);
     }
 }
@@ -188,7 +199,7 @@ pub fn touch(table: &[u16], links: &[u16], n: usize, marks: &[u8], cover: &mut [
 {
     let bottom = rules::cell_at(table, BOTTOM, f);
     want_parts(table, n, marks, cover, f);
-    meet(table, n, marks, cover, f, f);
+    want_whole(table, n, marks, cover, f);
     meet_chain(table, links, n, marks, cover, f, LEFT, f);
     meet_chain(table, links, n, marks, cover, f, RIGHT, f);
     meet_chain(table, links, n, marks, cover, f, BOTTOM, bottom);

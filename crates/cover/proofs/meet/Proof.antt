@@ -1,48 +1,29 @@
--- `cover::meet` meets its contract: the four records, one after the other.
+-- `cover::meet` meets its contract: the record or records that the column asks for.
 -- Assumes nothing.
-use Rattle.cover.proofs.Wanting.{meeting-wanted}
+use Rattle.cover.proofs.Wanting.{bottom-met, whole-met}
 use borrow.Author.Needs.{needs}
 use Rattle.cover.proofs.meet.Statement.{statement}
 use Rattle.cover.proofs.meet.Tie as tie
 
-cell-at-requires : tie.Need-cell-at-requires
-cell-at-requires c κs = search needs
-
-cell-at-requires-2 : tie.Need-cell-at-requires-2
-cell-at-requires-2 c κs = search needs
-
 want-requires : tie.Need-want-requires
 want-requires c κs = search needs
 
-want-requires-2 : tie.Need-want-requires-2
-want-requires-2 c κs = search needs
-
-want-requires-3 : tie.Need-want-requires-3
-want-requires-3 c κs = search needs
-
-want-requires-4 : tie.Need-want-requires-4
-want-requires-4 c κs = search needs
+want-whole-requires : tie.Need-want-whole-requires
+want-whole-requires c κs = search needs
 
 same-length : tie.Need-same-length
 same-length c = search needs
 
 returns : tie.Need-returns
-returns c =
-    let third = c .before .before .before .before .before .before in
-    let second = third .before .before .before .before in
-    let first = second .before .before .before .before in
-    meeting-wanted _ _ _ _ _ _ (first .before .before .before .cell-at .ensures) (first .before .before .cell-at2 .ensures) (first .want .ensures)
-    (second .want2 .ensures) (third .want3 .ensures) (c .before .before .want4 .ensures)
+returns c = bottom-met _ _ _ _ _ _ _ (c .before .before .before .before .if1 .taken) (c .before .before .want .ensures)
+
+same-length-2 : tie.Need-same-length-2
+same-length-2 c = search needs
+
+returns-2 : tie.Need-returns-2
+returns-2 c = whole-met _ _ _ _ _ _ _ (c .before .before .before .before .if1 .left) (c .before .before .want-whole .ensures)
 
 pub meet-spec : {M : Type 1} → statement M
 meet-spec =
     tie.close
-    (tie.spec
-    cell-at-requires
-    cell-at-requires-2
-    want-requires
-    want-requires-2
-    want-requires-3
-    want-requires-4
-    same-length
-    returns)
+    (tie.spec want-requires want-whole-requires same-length returns same-length-2 returns-2)

@@ -12,8 +12,8 @@ cell-at-requires c κs = search needs
 want-parts-requires : tie.Need-want-parts-requires
 want-parts-requires c κs = search needs
 
-meet-requires : tie.Need-meet-requires
-meet-requires c κs = search needs
+want-whole-requires : tie.Need-want-whole-requires
+want-whole-requires c κs = search needs
 
 meet-chain-requires : tie.Need-meet-chain-requires
 meet-chain-requires c κs = search needs
@@ -37,7 +37,7 @@ returns c =
     let third = fourth .before .before .before .before in
     let second = third .before .before .before .before in
     let first = second .before .before .before .before in
-    touching-wanted _ _ _ _ _ (first .before .before .cell-at .ensures) (first .want-parts .ensures) (second .meet .ensures) (third .meet-chain .ensures)
+    touching-wanted _ _ _ _ _ (first .before .before .cell-at .ensures) (first .want-parts .ensures) (second .want-whole .ensures) (third .meet-chain .ensures)
     (fourth .meet-chain2 .ensures) (c .before .before .meet-chain3 .ensures)
 
 pub touch-spec : {M : Type 1} → statement M
@@ -46,7 +46,7 @@ touch-spec =
     (tie.spec
     cell-at-requires
     want-parts-requires
-    meet-requires
+    want-whole-requires
     meet-chain-requires
     meet-chain-requires-2
     meet-chain-requires-3
