@@ -1,7 +1,7 @@
 /* Brimusket: which lien messages a registry may record, and whether its journal holds the reason.
  *
  * One call reads a policy file, keeps what is good of a journal, adds at most `limit` records and answers the file's queries.
- * It asks nothing of the caller: every file, journal, length and limit gets an answer. It allocates nothing and keeps nothing
+ * Whatever the buffers hold, and whatever `used` and `limit` are, it gives an answer. It allocates nothing and keeps nothing
  * between calls; it uses less than 192 KiB of stack. */
 #ifndef BRIMUSKET_H
 #define BRIMUSKET_H
@@ -39,7 +39,8 @@ enum {
     BRIMUSKET_OPEN = 2
 };
 
-/* The three buffers must not overlap. */
+/* Each pointer has as many bytes behind it as its length says, and the three buffers do not overlap: this alone is the
+ * caller's to see to. */
 brimusket_report brimusket_run(const uint8_t *file, size_t file_len,
                                uint8_t *journal, size_t journal_len,
                                size_t used, size_t limit,
