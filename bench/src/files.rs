@@ -1,7 +1,8 @@
 //! Files of growing size.
 
 /// The most nodes a file is made of.
-pub const NODES: [usize; 5] = [64, 128, 256, 512, 1_024];
+pub const NODES: [usize; 5] = [64, 128, 256, 512, LARGEST];
+pub const LARGEST: usize = 1_024;
 
 /// A kind of file, made of at most so many nodes.
 pub struct Kind {
@@ -9,14 +10,18 @@ pub struct Kind {
     pub make: fn(usize) -> Vec<u8>,
 }
 
-pub const KINDS: [Kind; 5] = [
+pub const KINDS: [Kind; 6] = [
     Kind {
         name: "night",
         make: night,
     },
     Kind {
-        name: "dense",
-        make: dense,
+        name: "full",
+        make: full,
+    },
+    Kind {
+        name: "parts",
+        make: parts,
     },
     Kind {
         name: "reverse",
@@ -46,36 +51,44 @@ fn night(nodes: usize) -> Vec<u8> {
     lines.collect::<String>().into_bytes()
 }
 
-/// About four listed formulas for each node: a conjunction under four times
-/// said takes a quarter of the nodes, queries about its parts the others.
-fn dense(nodes: usize) -> Vec<u8> {
+/// As many nodes and nearly as many listed formulas as a file may have: queries
+/// about the parts of a conjunction take what its list leaves of the nodes.
+fn full(nodes: usize) -> Vec<u8> {
     let leaves = nodes / 8;
-    let mut text = format!("H S a S b S c S d {}\n", conjunction(leaves));
-    let queries = (nodes - 4 - (2 * leaves - 1)) / 5;
-    for query in 0..queries {
-        text += &format!("Q P a S b P c S d x{}\n", query % leaves);
+    let mut text = parts(nodes);
+    for query in 0..(nodes - 4 - (2 * leaves - 1)) / 5 {
+        text.extend(format!("Q P a S b P c S d x{}\n", query % leaves).bytes());
     }
-    text.into_bytes()
+    text
 }
 
-/// A chain of implications that is derived from its end, each formula from one
+/// A conjunction under four times said. This file and the next two have few nodes
+/// and about four listed formulas for each that they may have.
+fn parts(nodes: usize) -> Vec<u8> {
+    format!("H S a S b S c S d {}\n", conjunction(nodes / 8)).into_bytes()
+}
+
+/// Implications attached one to another, `> y > y .. x0`, and `x0` at the end of a
+/// chain `> x1 x0`, `> x2 x1`, ..: where all is said each formula comes from one
 /// with a greater number.
 fn reverse(nodes: usize) -> Vec<u8> {
-    let steps = (nodes - 2) / 3;
-    let mut text = String::from("Q x0\n");
+    let steps = nodes / 16;
+    let attached = "> y ".repeat(steps);
+    let mut text = format!("Q S a S b S c S d {attached}x0\nH S a S b S c S d ");
     for step in 0..steps {
-        text += &format!("H > x{} x{step}\n", step + 1);
+        text += &format!("+ > x{} x{step} ", step + 1);
     }
-    text += &format!("H x{steps}\n");
+    text += &format!("x{steps}\n");
     text.into_bytes()
 }
 
-/// One name in nearly every formula, as condition, as part and as conclusion.
+/// One name in two of five formulas, as condition and as conclusion.
 fn one_name(nodes: usize) -> Vec<u8> {
-    let mut text = String::from("H hub\n");
-    for count in 0..(nodes - 1) / 9 {
-        text += &format!("H > hub x{count}\nQ + x{count} hub\nQ > x{count} hub\n");
+    let mut text = String::from("H S a S b S c S d ");
+    for count in 0..nodes / 20 {
+        text += &format!("+ > hub x{count} + > x{count} hub ");
     }
+    text += "hub\n";
     text.into_bytes()
 }
 

@@ -34,11 +34,9 @@ fn main() -> ExitCode {
 }
 
 fn all_rows() -> Vec<Row> {
-    let mut rows = Vec::new();
-    for kind in files::KINDS {
-        for nodes in files::NODES {
-            rows.push(timing::row(kind.name, nodes, &(kind.make)(nodes)));
-        }
-    }
-    rows
+    let rows_of = |kind: files::Kind| {
+        let files = files::NODES.map(|nodes| (nodes, (kind.make)(nodes - timing::DEEP_NODES)));
+        timing::rows(kind.name, files.into_iter())
+    };
+    files::KINDS.into_iter().flat_map(rows_of).collect()
 }

@@ -1,17 +1,42 @@
-//! The picture: time of a run from empty against L, both axes logarithmic.
+//! The picture: the time of a run from empty and of each of its stages against
+//! L, all axes logarithmic.
 
-use crate::timing::Row;
+use crate::timing::{Pair, Row};
 use against::engine;
 
-const WIDTH: f64 = 860.0;
-const HEIGHT: f64 = 560.0;
-/// The plot's edges.
-const LEFT: f64 = 80.0;
-const RIGHT: f64 = 660.0;
+const WIDTH: f64 = 1_060.0;
+const HEIGHT: f64 = 800.0;
+/// A panel's plot, and the room it takes with its margins.
+const PLOT_WIDTH: f64 = 350.0;
+const PLOT_HEIGHT: f64 = 300.0;
+const PANEL_WIDTH: f64 = 440.0;
+const PANEL_HEIGHT: f64 = 390.0;
+/// The upper left corner of the first panel's plot.
+const LEFT: f64 = 70.0;
 const TOP: f64 = 40.0;
-const BOTTOM: f64 = 500.0;
+/// The legend's left edge.
+const LEGEND: f64 = 890.0;
 
-const COLOURS: [&str; 5] = ["#1b6ca8", "#c0392b", "#2e8b57", "#8e44ad", "#b9770e"];
+const COLOURS: [&str; 6] = [
+    "#1b6ca8", "#c0392b", "#2e8b57", "#8e44ad", "#b9770e", "#4d4d4d",
+];
+
+/// One thing of a row that was timed.
+type Timed = fn(&Row) -> Pair;
+
+/// The panels with their titles.
+const PANELS: [(&str, Timed); 4] = [
+    ("the whole run", |row| row.from_empty),
+    ("reading", |row| row.reading),
+    ("listing", |row| row.listing),
+    ("the rest", |row| row.rest),
+];
+
+/// The engines with their strokes.
+const ENGINES: [(&str, &str, fn(Pair) -> f64); 2] = [
+    (engine::NAME, "", |pair| pair.under_test),
+    ("fast sibling (dashed)", "6 4", |pair| pair.fast),
+];
 
 /// A logarithmic axis between two powers of ten, drawn from `from` to `to`.
 struct Axis {
@@ -46,37 +71,42 @@ impl Axis {
     }
 }
 
-/// One engine's time of a row.
-type Time = fn(&Row) -> f64;
-
-/// The engines with their strokes.
-const ENGINES: [(&str, &str, Time); 2] = [
-    (engine::NAME, "", |row| row.from_empty.under_test),
-    ("fast sibling (dashed)", "6 4", |row| row.from_empty.fast),
-];
-
 pub fn svg(rows: &[Row]) -> String {
-    let across = Axis::around(rows.iter().map(|row| row.listed as f64), LEFT, RIGHT);
-    let times = rows
-        .iter()
-        .flat_map(|row| ENGINES.map(|(.., time)| time(row)));
-    let upwards = Axis::around(times, BOTTOM, TOP);
     let mut text = format!(
         "<svg xmlns=\"http://www.w3.org/2000/svg\" viewBox=\"0 0 {WIDTH} {HEIGHT}\" \
          font-family=\"sans-serif\" font-size=\"13\">\n\
          <rect width=\"{WIDTH}\" height=\"{HEIGHT}\" fill=\"white\"/>\n"
     );
-    text += &grid(&across, &upwards);
+    for (count, (title, timed)) in PANELS.into_iter().enumerate() {
+        let left = LEFT + PANEL_WIDTH * (count % 2) as f64;
+        let top = TOP + PANEL_HEIGHT * (count / 2) as f64;
+        text += &panel(rows, title, timed, left, top);
+    }
+    text + &legend(&kinds(rows)) + "</svg>\n"
+}
+
+/// The time of one thing against L, with the plot's upper left corner.
+fn panel(rows: &[Row], title: &str, timed: Timed, left: f64, top: f64) -> String {
+    let listed = rows.iter().map(|row| row.listed as f64);
+    let times = rows
+        .iter()
+        .flat_map(|row| ENGINES.map(|(.., of)| of(timed(row))));
+    let across = Axis::around(listed, left, left + PLOT_WIDTH);
+    let upwards = Axis::around(times, top + PLOT_HEIGHT, top);
+    let mut text = grid(&across, &upwards, title);
     for (kind, colour) in kinds(rows).iter().zip(COLOURS) {
-        let rows: Vec<&Row> = rows.iter().filter(|row| row.kind == *kind).collect();
-        for (_, dashes, time) in ENGINES {
-            let points = rows
-                .iter()
-                .map(|row| (across.place(row.listed as f64), upwards.place(time(row))));
+        for (_, dashes, of) in ENGINES {
+            let rows = rows.iter().filter(|row| row.kind == *kind);
+            let points = rows.map(|row| {
+                (
+                    across.place(row.listed as f64),
+                    upwards.place(of(timed(row))),
+                )
+            });
             text += &line(points.collect(), colour, dashes);
         }
     }
-    text + &legend(&kinds(rows)) + "</svg>\n"
+    text
 }
 
 /// The kinds of files in the order in which they come.
@@ -86,20 +116,22 @@ fn kinds(rows: &[Row]) -> Vec<&'static str> {
     kinds
 }
 
-fn grid(across: &Axis, upwards: &Axis) -> String {
+fn grid(across: &Axis, upwards: &Axis, title: &str) -> String {
+    let (left, right) = (across.from, across.to);
+    let (bottom, top) = (upwards.from, upwards.to);
     let mut text = String::new();
     for power in across.powers() {
         let x = across.place(power);
-        text += &stroke(x, TOP, x, BOTTOM);
-        text += &label(x, BOTTOM + 20.0, "middle", &power.to_string());
+        text += &stroke(x, top, x, bottom);
+        text += &label(x, bottom + 18.0, "middle", &power.to_string());
     }
     for power in upwards.powers() {
         let y = upwards.place(power);
-        text += &stroke(LEFT, y, RIGHT, y);
-        text += &label(LEFT - 8.0, y + 4.0, "end", &power.to_string());
+        text += &stroke(left, y, right, y);
+        text += &label(left - 8.0, y + 4.0, "end", &power.to_string());
     }
-    text += &label((LEFT + RIGHT) / 2.0, BOTTOM + 45.0, "middle", "L");
-    text + &label(LEFT, TOP - 15.0, "middle", "microseconds, from empty")
+    text += &label((left + right) / 2.0, bottom + 36.0, "middle", "L");
+    text + &label(left, top - 12.0, "start", &format!("{title}, microseconds"))
 }
 
 fn stroke(x1: f64, y1: f64, x2: f64, y2: f64) -> String {
@@ -127,18 +159,17 @@ fn line(points: Vec<(f64, f64)>, colour: &str, dashes: &str) -> String {
 }
 
 fn legend(kinds: &[&str]) -> String {
-    let x = RIGHT + 25.0;
     let mut text = String::new();
     for (count, (name, ..)) in ENGINES.iter().enumerate() {
-        text += &label(x, TOP + 20.0 * count as f64 + 10.0, "start", name);
+        text += &label(LEGEND, TOP + 20.0 * count as f64 + 10.0, "start", name);
     }
     for (count, (kind, colour)) in kinds.iter().zip(COLOURS).enumerate() {
         let y = TOP + 20.0 * count as f64 + 70.0;
         text += &format!(
-            "<circle cx=\"{x:.1}\" cy=\"{:.1}\" r=\"5\" fill=\"{colour}\"/>\n",
+            "<circle cx=\"{LEGEND:.1}\" cy=\"{:.1}\" r=\"5\" fill=\"{colour}\"/>\n",
             y - 4.0
         );
-        text += &label(x + 14.0, y, "start", kind);
+        text += &label(LEGEND + 14.0, y, "start", kind);
     }
     text
 }

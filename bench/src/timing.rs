@@ -1,15 +1,21 @@
-//! Timing two engines in turn on equal buffers.
+//! Timing two engines in turn on equal buffers, over all files of a kind in turn,
+//! so that a machine that slows down slows down all that is compared.
 
 use against::cases::sizes;
-use against::{engine, journals};
+use against::engine::under_test;
+use against::journals::{finished, RECORD};
 use second::{fast, Run};
 use std::hint::black_box;
 use std::time::{Duration, Instant};
 
 const LEAST_REPETITIONS: usize = 5;
 const MOST_REPETITIONS: usize = 301;
-/// Time after which no further repetition is begun.
-const BUDGET: Duration = Duration::from_millis(200);
+/// Time after which no further repetition over a kind's files is begun.
+const BUDGET: Duration = Duration::from_secs(20);
+
+/// A line that is refused when all lines have been read, and its nodes.
+const DEEP_LINE: &[u8] = b"Q S a S a S a S a S a a\n";
+pub const DEEP_NODES: usize = 6;
 
 /// Medians in microseconds.
 #[derive(Clone, Copy)]
@@ -18,15 +24,9 @@ pub struct Pair {
     pub fast: f64,
 }
 
-/// Medians in microseconds of the fast sibling's stages.
-#[derive(Clone, Copy)]
-pub struct Stages {
-    pub read: f64,
-    pub list: f64,
-    pub close: f64,
-}
-
-/// All that is measured on one file.
+/// All that is measured on one file: whole runs from empty, from the finished
+/// journal and for one record; reading and listing; and the rest of the runs from
+/// empty and from the finished journal, which is the closure with its journal.
 pub struct Row {
     pub kind: &'static str,
     pub nodes: usize,
@@ -35,107 +35,210 @@ pub struct Row {
     pub from_empty: Pair,
     pub resumed: Pair,
     pub one_record: Pair,
-    pub stages: Stages,
+    pub reading: Pair,
+    pub listing: Pair,
+    pub rest: Pair,
+    pub rest_resumed: Pair,
 }
 
-/// A run to be repeated: the journal it starts from and its limit.
-struct Input<'a> {
-    file: &'a [u8],
-    journal: &'a [u8],
-    limit: usize,
+/// What was measured once, in the order of a row's pairs.
+type Times = [Duration; 7];
+
+/// A file with its buffers and what its runs leave.
+struct Subject {
+    nodes: usize,
+    file: Vec<u8>,
+    /// The file with a line that is refused behind it.
+    deep: Vec<u8>,
     listed: usize,
-    queries: usize,
+    uncut: Vec<u8>,
+    journal: Vec<u8>,
+    answers: Vec<u8>,
 }
 
-pub fn row(kind: &'static str, nodes: usize, file: &[u8]) -> Row {
-    let (listed, queries) = sizes(file).expect("the file is accepted");
-    let uncut = journals::finished(file);
-    let input = |journal, limit| Input {
-        file,
-        journal,
-        limit,
-        listed,
-        queries,
-    };
-    Row {
-        kind,
-        nodes,
-        listed,
-        records: uncut.len() / journals::RECORD,
-        from_empty: pair(&input(&[], usize::MAX)),
-        resumed: pair(&input(&uncut, usize::MAX)),
-        one_record: pair(&input(&[], 1)),
-        stages: stages(file, listed),
+impl Subject {
+    fn new(nodes: usize, file: Vec<u8>) -> Subject {
+        let (listed, queries) = sizes(&file).expect("the file is accepted");
+        Subject {
+            nodes,
+            deep: [&file, DEEP_LINE].concat(),
+            listed,
+            uncut: finished(&file),
+            journal: vec![0; RECORD * listed],
+            answers: vec![0; queries],
+            file,
+        }
+    }
+
+    fn records(&self) -> usize {
+        self.uncut.len() / RECORD
+    }
+
+    /// Fills the journal buffer with so many records of the uncut journal, and
+    /// zeros behind them.
+    fn put_records(&mut self, records: usize) {
+        let (used, rest) = self.journal.split_at_mut(RECORD * records);
+        used.copy_from_slice(&self.uncut[..RECORD * records]);
+        rest.fill(0);
+    }
+
+    /// Whether just so many records of the uncut journal are in the buffer.
+    fn has_records(&self, records: usize) -> bool {
+        let (used, rest) = self.journal.split_at(RECORD * records);
+        *used == self.uncut[..RECORD * records] && rest.iter().all(|byte| *byte == 0)
     }
 }
 
-/// The time of one run, and its journal. Buffers are cleared before, not
-/// within, the time taken.
-fn time(run: Run, input: &Input) -> (Duration, Vec<u8>) {
-    let mut journal = vec![0; journals::RECORD * input.listed];
-    journal[..input.journal.len()].copy_from_slice(input.journal);
-    let mut answers = vec![0; input.queries];
-    let begun = Instant::now();
-    let report = run(
-        black_box(input.file),
-        &mut journal,
-        input.journal.len(),
-        input.limit,
-        &mut answers,
-    );
-    let taken = begun.elapsed();
-    assert_eq!(report.code, 0);
-    (taken, journal)
-}
-
-/// Times both engines in turn, and checks that they leave the same journal.
-fn pair(input: &Input) -> Pair {
-    let mut under_test = Vec::new();
-    let mut sibling = Vec::new();
-    repeat(|| {
-        let (taken, journal) = time(engine::under_test, input);
-        let (taken_by_sibling, expected) = time(fast::run, input);
-        assert!(journal == expected, "the journals differ");
-        under_test.push(taken);
-        sibling.push(taken_by_sibling);
-    });
-    Pair {
-        under_test: median(under_test),
-        fast: median(sibling),
-    }
-}
-
-fn stages(file: &[u8], listed: usize) -> Stages {
-    let mut times = [Vec::new(), Vec::new(), Vec::new()];
-    let mut journal = vec![0; journals::RECORD * listed];
-    repeat(|| {
-        journal.fill(0);
-        let begun = Instant::now();
-        let parsed = fast::read(black_box(file)).expect("the file is accepted");
-        let read = begun.elapsed();
-        let list = fast::list(&parsed).expect("the file is accepted");
-        let listed = begun.elapsed();
-        black_box(fast::close(&list, &mut journal, 0, usize::MAX));
-        let closed = begun.elapsed();
-        times[0].push(read);
-        times[1].push(listed - read);
-        times[2].push(closed - listed);
-    });
-    let [read, list, close] = times.map(median);
-    Stages { read, list, close }
-}
-
-fn repeat(mut once: impl FnMut()) {
+/// The rows of a kind, from its files with the most nodes they are made of.
+pub fn rows(kind: &'static str, files: impl Iterator<Item = (usize, Vec<u8>)>) -> Vec<Row> {
+    let mut subjects: Vec<Subject> = files
+        .map(|(nodes, file)| Subject::new(nodes, file))
+        .collect();
+    let mut taken: Vec<Vec<[Times; 2]>> = subjects.iter().map(|_| Vec::new()).collect();
     let begun = Instant::now();
     for count in 0..MOST_REPETITIONS {
         if count >= LEAST_REPETITIONS && begun.elapsed() > BUDGET {
-            return;
+            break;
         }
-        once();
+        for (subject, taken) in subjects.iter_mut().zip(&mut taken) {
+            taken.push([times_under_test(subject), times_of_sibling(subject)]);
+        }
+    }
+    let rows = subjects.iter().zip(&taken);
+    rows.map(|(subject, taken)| row(kind, subject, taken))
+        .collect()
+}
+
+fn row(kind: &'static str, subject: &Subject, taken: &[[Times; 2]]) -> Row {
+    let pair = |what: usize| Pair {
+        under_test: median(taken.iter().map(|[times, _]| times[what])),
+        fast: median(taken.iter().map(|[_, times]| times[what])),
+    };
+    Row {
+        kind,
+        nodes: subject.nodes,
+        listed: subject.listed,
+        records: subject.records(),
+        from_empty: pair(0),
+        resumed: pair(1),
+        one_record: pair(2),
+        reading: pair(3),
+        listing: pair(4),
+        rest: pair(5),
+        rest_resumed: pair(6),
     }
 }
 
-fn median(mut times: Vec<Duration>) -> f64 {
+/// A run that is refused by code 4 in its last line has read, one without room
+/// for its journal has read and listed: the stages are differences of runs.
+fn times_under_test(subject: &mut Subject) -> Times {
+    let [from_empty, resumed, one_record] = whole_runs(under_test, subject);
+    let read = refusal(under_test, &subject.deep, &mut subject.journal, 4);
+    let listed = refusal(under_test, &subject.file, &mut subject.journal, 6);
+    [
+        from_empty,
+        resumed,
+        one_record,
+        read,
+        listed.saturating_sub(read),
+        from_empty.saturating_sub(listed),
+        resumed.saturating_sub(listed),
+    ]
+}
+
+/// The fast sibling's stages are called for themselves.
+fn times_of_sibling(subject: &mut Subject) -> Times {
+    let [from_empty, resumed, one_record] = whole_runs(fast::run, subject);
+    let begun = Instant::now();
+    let parsed = fast::read(black_box(&subject.file)).expect("the file is accepted");
+    let read = begun.elapsed();
+    let list = fast::list(&parsed).expect("the file is accepted");
+    let listed = begun.elapsed();
+    [
+        from_empty,
+        resumed,
+        one_record,
+        read,
+        listed - read,
+        closure(&list, subject, 0),
+        closure(&list, subject, subject.records()),
+    ]
+}
+
+/// From empty, from the finished journal, and for one record; after a run that
+/// does not count, since the caches held another file.
+fn whole_runs(run: Run, subject: &mut Subject) -> [Duration; 3] {
+    let all = subject.records();
+    whole_run(run, subject, 0, all);
+    [
+        whole_run(run, subject, 0, all),
+        whole_run(run, subject, all, all),
+        whole_run(run, subject, 0, 1),
+    ]
+}
+
+/// The time of a run from so many records to so many; it must leave the uncut
+/// journal's.
+fn whole_run(run: Run, subject: &mut Subject, from: usize, to: usize) -> Duration {
+    subject.put_records(from);
+    let call = Call {
+        file: &subject.file,
+        used: RECORD * from,
+        limit: to - from,
+    };
+    let taken = time(run, call, &mut subject.journal, &mut subject.answers, 0);
+    assert!(subject.has_records(to), "another journal");
+    taken
+}
+
+/// The time of a run that is refused for its file or for want of room.
+fn refusal(run: Run, file: &[u8], journal: &mut [u8], code: usize) -> Duration {
+    let call = Call {
+        file,
+        used: 0,
+        limit: 0,
+    };
+    time(run, call, &mut journal[..0], &mut [], code)
+}
+
+struct Call<'a> {
+    file: &'a [u8],
+    used: usize,
+    limit: usize,
+}
+
+/// The time of a run that ends with this code. All runs are called from here and
+/// on the same buffers, so that they have the same places in memory.
+#[inline(never)]
+fn time(run: Run, call: Call, journal: &mut [u8], answers: &mut [u8], code: usize) -> Duration {
+    let begun = Instant::now();
+    let report = run(
+        black_box(call.file),
+        journal,
+        call.used,
+        call.limit,
+        answers,
+    );
+    let taken = begun.elapsed();
+    assert_eq!(report.code, code);
+    taken
+}
+
+/// The time of the fast sibling's closure from so many records to the end.
+fn closure(list: &fast::List, subject: &mut Subject, from: usize) -> Duration {
+    subject.put_records(from);
+    let begun = Instant::now();
+    black_box(fast::close(
+        list,
+        &mut subject.journal,
+        RECORD * from,
+        usize::MAX,
+    ));
+    begun.elapsed()
+}
+
+fn median(times: impl Iterator<Item = Duration>) -> f64 {
+    let mut times: Vec<Duration> = times.collect();
     times.sort();
     times[times.len() / 2].as_secs_f64() * 1e6
 }
