@@ -48,11 +48,7 @@ fn is_well_formed(file: &[u8], start: usize, end: usize) -> bool
     if end - start < 2 {
         return false;
     }
-    if is_opening(file[start], file[start + 1]) {
-        spelling::is_formula(&file[start + 2..end])
-    } else {
-        false
-    }
+    is_opening(file[start], file[start + 1]) && spelling::is_formula(&file[start + 2..end])
 }
 
 // Code 2: a line is not well formed. Its place is the start of the first such line.

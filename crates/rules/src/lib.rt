@@ -43,7 +43,7 @@ pub fn is_marked(marks: &[u8], n: usize, i: usize) -> bool
     requires { ⌜ n ≤ length (now marks) ⌝ }
     ensures { λ r. ⌜ r ≡ isMarked n (now (marks .entry)) i ⌝ }
 {
-    if i < n { marks[i] == 1 } else { false }
+    i < n && marks[i] == 1
 }
 
 // Whether two numbers are marked.
@@ -51,11 +51,7 @@ pub fn are_marked(marks: &[u8], n: usize, p: usize, q: usize) -> bool
     requires { ⌜ n ≤ length (now marks) ⌝ }
     ensures { λ r. ⌜ r ≡ isMarked n (now (marks .entry)) p && isMarked n (now (marks .entry)) q ⌝ }
 {
-    if is_marked(marks, n, p) {
-        is_marked(marks, n, q)
-    } else {
-        false
-    }
+    is_marked(marks, n, p) && is_marked(marks, n, q)
 }
 
 // Rule 3: whether f is p with put at some places where p has said.
@@ -63,13 +59,9 @@ pub fn weakens(table: &[u16], p: usize, f: usize) -> bool
     requires { ⌜ (24576 ≤ length (now table)) × (p < 4096) × (f < 4096) ⌝ }
     ensures { λ r. ⌜ r ≡ givesIn (now (table .entry)) (Weaken p) f ⌝ }
 {
-    if cell_at(table, BOTTOM, p) == cell_at(table, BOTTOM, f) {
-        let from = cell_at(table, PUTS, p);
-        let to = cell_at(table, PUTS, f);
-        from & to == from
-    } else {
-        false
-    }
+    let from = cell_at(table, PUTS, p);
+    let to = cell_at(table, PUTS, f);
+    cell_at(table, BOTTOM, p) == cell_at(table, BOTTOM, f) && from & to == from
 }
 
 // Whether a formula is of a kind and has a part, the left or the right one as the column says.
@@ -77,11 +69,7 @@ pub fn has_part(table: &[u16], kind: usize, column: usize, whole: usize, part: u
     requires { ⌜ (24576 ≤ length (now table)) × (column < 6) × (whole < 4096) ⌝ }
     ensures { λ r. ⌜ r ≡ eqb (cell (now (table .entry)) 0 whole) kind && eqb (cell (now (table .entry)) column whole) part ⌝ }
 {
-    if cell_at(table, KIND, whole) == kind {
-        cell_at(table, column, whole) == part
-    } else {
-        false
-    }
+    cell_at(table, KIND, whole) == kind && cell_at(table, column, whole) == part
 }
 
 // Whether a formula is of a kind and has a left and a right part.
@@ -90,11 +78,7 @@ fn has_parts(table: &[u16], kind: usize, whole: usize, left: usize, right: usize
     ensures { λ r. ⌜ r ≡ eqb (cell (now (table .entry)) 0 whole) kind && eqb (cell (now (table .entry)) 2 whole) left
         && eqb (cell (now (table .entry)) 3 whole) right ⌝ }
 {
-    if has_part(table, kind, LEFT, whole, left) {
-        cell_at(table, RIGHT, whole) == right
-    } else {
-        false
-    }
+    has_part(table, kind, LEFT, whole, left) && cell_at(table, RIGHT, whole) == right
 }
 
 // Whether a way's premises are marked and it gives the formula with number f.
@@ -105,48 +89,12 @@ fn leads_to(table: &[u16], n: usize, marks: &[u8], f: usize, way: Way) -> bool
     match way {
         Way::Hypothesis => cell_at(table, HYPOTHESIS, f) == 1,
         Way::Given => cell_at(table, KIND, f) == TRUTH,
-        Way::Weaken(p) => {
-            if is_marked(marks, n, p) {
-                weakens(table, p, f)
-            } else {
-                false
-            }
-        }
-        Way::Left(p) => {
-            if is_marked(marks, n, p) {
-                has_part(table, CONJUNCTION, LEFT, p, f)
-            } else {
-                false
-            }
-        }
-        Way::Right(p) => {
-            if is_marked(marks, n, p) {
-                has_part(table, CONJUNCTION, RIGHT, p, f)
-            } else {
-                false
-            }
-        }
-        Way::Both(p, q) => {
-            if are_marked(marks, n, p, q) {
-                has_parts(table, CONJUNCTION, f, p, q)
-            } else {
-                false
-            }
-        }
-        Way::Apply(p, q) => {
-            if are_marked(marks, n, p, q) {
-                has_parts(table, IMPLICATION, q, p, f)
-            } else {
-                false
-            }
-        }
-        Way::Attach(p) => {
-            if is_marked(marks, n, p) {
-                has_part(table, IMPLICATION, RIGHT, f, p)
-            } else {
-                false
-            }
-        }
+        Way::Weaken(p) => is_marked(marks, n, p) && weakens(table, p, f),
+        Way::Left(p) => is_marked(marks, n, p) && has_part(table, CONJUNCTION, LEFT, p, f),
+        Way::Right(p) => is_marked(marks, n, p) && has_part(table, CONJUNCTION, RIGHT, p, f),
+        Way::Both(p, q) => are_marked(marks, n, p, q) && has_parts(table, CONJUNCTION, f, p, q),
+        Way::Apply(p, q) => are_marked(marks, n, p, q) && has_parts(table, IMPLICATION, q, p, f),
+        Way::Attach(p) => is_marked(marks, n, p) && has_part(table, IMPLICATION, RIGHT, f, p),
     }
 }
 
@@ -160,8 +108,5 @@ pub fn is_good(table: &[u16], n: usize, marks: &[u8], r: Record) -> bool
     if n <= f {
         return false;
     }
-    if is_marked(marks, n, f) {
-        return false;
-    }
-    leads_to(table, n, marks, f, way)
+    !is_marked(marks, n, f) && leads_to(table, n, marks, f, way)
 }

@@ -16,7 +16,7 @@ returns : tie.Need-returns
 returns c = first-passed (sym (c .before .before .is-marked .ensures) ∙ c .before .if1 .taken) (c .is-marked2 .ensures)
 
 returns-2 : tie.Need-returns-2
-returns-2 c = first-failed _ (sym (c .before .is-marked .ensures) ∙ c .if1 .left)
+returns-2 c = first-failed _ (c .before .is-marked .ensures) (c .if1 .left)
 
 pub are-marked-spec : {M : Type 1} → statement M
 are-marked-spec = tie.close (tie.spec is-marked-requires is-marked-requires-2 returns returns-2)

@@ -16,7 +16,7 @@ returns : tie.Need-returns
 returns c = first-passed (sym (c .before .before .has-part .ensures) ∙ c .before .if1 .taken) (equal-read _ (c .cell-at .ensures))
 
 returns-2 : tie.Need-returns-2
-returns-2 c = first-failed _ (sym (c .before .has-part .ensures) ∙ c .if1 .left)
+returns-2 c = first-failed _ (c .before .has-part .ensures) (c .if1 .left)
 
 pub has-parts-spec : {M : Type 1} → statement M
 has-parts-spec = tie.close (tie.spec has-part-requires cell-at-requires returns returns-2)

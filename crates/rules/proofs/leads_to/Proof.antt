@@ -90,7 +90,7 @@ returns-3 c = led _ _ _ _ (c .before .before .before .before .way .given .1) (sy
 
 returns-4 : tie.Need-returns-4
 unfolding premisesMarked givesIn
-returns-4 c = unled _ _ _ _ (c .before .before .before .way .given .1) (sym (c .before .is-marked .ensures) ∙ c .if1 .left)
+returns-4 c = unled _ _ _ _ (c .before .before .before .way .given .1) (c .before .is-marked .ensures) (c .if1 .left)
 
 returns-5 : tie.Need-returns-5
 unfolding premisesMarked givesIn
@@ -99,7 +99,7 @@ returns-5 c = led _ _ _ _ (c .before .before .before .before .way2 .given .1) (s
 
 returns-6 : tie.Need-returns-6
 unfolding premisesMarked givesIn
-returns-6 c = unled _ _ _ _ (c .before .before .before .way2 .given .1) (sym (c .before .is-marked2 .ensures) ∙ c .if2 .left)
+returns-6 c = unled _ _ _ _ (c .before .before .before .way2 .given .1) (c .before .is-marked2 .ensures) (c .if2 .left)
 
 returns-7 : tie.Need-returns-7
 unfolding premisesMarked givesIn
@@ -108,7 +108,7 @@ returns-7 c = led _ _ _ _ (c .before .before .before .before .way3 .given .1) (s
 
 returns-8 : tie.Need-returns-8
 unfolding premisesMarked givesIn
-returns-8 c = unled _ _ _ _ (c .before .before .before .way3 .given .1) (sym (c .before .is-marked3 .ensures) ∙ c .if3 .left)
+returns-8 c = unled _ _ _ _ (c .before .before .before .way3 .given .1) (c .before .is-marked3 .ensures) (c .if3 .left)
 
 returns-9 : tie.Need-returns-9
 unfolding premisesMarked givesIn
@@ -117,7 +117,7 @@ returns-9 c = led _ _ _ _ (c .before .before .before .before .way4 .given .1) (s
 
 returns-10 : tie.Need-returns-10
 unfolding premisesMarked givesIn
-returns-10 c = unled _ _ _ _ (c .before .before .before .way4 .given .1) (sym (c .before .are-marked .ensures) ∙ c .if4 .left)
+returns-10 c = unled _ _ _ _ (c .before .before .before .way4 .given .1) (c .before .are-marked .ensures) (c .if4 .left)
 
 returns-11 : tie.Need-returns-11
 unfolding premisesMarked givesIn
@@ -126,7 +126,7 @@ returns-11 c = led _ _ _ _ (c .before .before .before .before .way5 .given .1) (
 
 returns-12 : tie.Need-returns-12
 unfolding premisesMarked givesIn
-returns-12 c = unled _ _ _ _ (c .before .before .before .way5 .given .1) (sym (c .before .are-marked2 .ensures) ∙ c .if5 .left)
+returns-12 c = unled _ _ _ _ (c .before .before .before .way5 .given .1) (c .before .are-marked2 .ensures) (c .if5 .left)
 
 returns-13 : tie.Need-returns-13
 unfolding premisesMarked givesIn
@@ -135,7 +135,7 @@ returns-13 c = led _ _ _ _ (c .before .before .before .before .way6 .given .1) (
 
 returns-14 : tie.Need-returns-14
 unfolding premisesMarked givesIn
-returns-14 c = unled _ _ _ _ (c .before .before .before .way6 .given .1) (sym (c .before .is-marked4 .ensures) ∙ c .if6 .left)
+returns-14 c = unled _ _ _ _ (c .before .before .before .way6 .given .1) (c .before .is-marked4 .ensures) (c .if6 .left)
 
 pub leads-to-spec : {M : Type 1} → statement M
 leads-to-spec = tie.close (tie.spec enum-told cell-at-requires enum-told-2 cell-at-requires-2 enum-known-way is-marked-requires weakens-requires enum-known-way-2 is-marked-requires-2 has-part-requires enum-known-way-3 is-marked-requires-3 has-part-requires-2 enum-known-way-4 are-marked-requires has-parts-requires enum-known-way-5 are-marked-requires-2 has-parts-requires-2 enum-known-way-6 is-marked-requires-4 has-part-requires-3 returns returns-2 returns-3 returns-4 returns-5 returns-6 returns-7 returns-8 returns-9 returns-10 returns-11 returns-12 returns-13 returns-14)

@@ -1,10 +1,10 @@
--- `rules::weakens` meets its contract: the bottoms are compared, then the put places.
+-- `rules::weakens` meets its contract: the bottoms are compared, and the put places.
 -- Assumes nothing.
 use mathlib.Core.Path.{sym, _∙_, ap₂}
 use borrow.Author.Needs.{needs}
 use borrow.Author.Tests.{eq-eqb, ne-eqb}
 use Rattle.table.specs.Tests.{givesIn}
-use Rattle.rules.proofs.Led.{first-passed, first-failed, contained}
+use Rattle.rules.proofs.Led.{first-passed, first-failed, equal-reads, contained}
 use Rattle.rules.proofs.weakens.Statement.{statement}
 use Rattle.rules.proofs.weakens.Tie as tie
 
@@ -22,13 +22,13 @@ cell-at-requires-4 c κs = search needs
 
 returns : tie.Need-returns
 unfolding givesIn
-returns c = let b = c .before .before .before in
-    first-passed (eq-eqb _ _ (sym (b .before .cell-at .ensures) ∙ (c .before .before .if1 .taken ∙ b .cell-at2 .ensures)))
-    (contained (c .before .cell-at3 .ensures) (c .cell-at4 .ensures))
+returns c = let b = c .before .before in
+    first-passed (eq-eqb _ _ (sym (b .cell-at3 .ensures) ∙ (c .if1 .taken ∙ c .before .cell-at4 .ensures)))
+    (contained (b .before .before .cell-at .ensures) (b .before .cell-at2 .ensures))
 
 returns-2 : tie.Need-returns-2
 unfolding givesIn
-returns-2 c = first-failed _ (ne-eqb _ _ (λ same. c .if1 .left (c .before .before .cell-at .ensures ∙ (same ∙ sym (c .before .cell-at2 .ensures)))))
+returns-2 c = first-failed _ (equal-reads (c .before .before .cell-at3 .ensures) (c .before .cell-at4 .ensures)) (ne-eqb _ _ (c .if1 .left))
 
 pub weakens-spec : {M : Type 1} → statement M
 weakens-spec = tie.close (tie.spec cell-at-requires cell-at-requires-2 cell-at-requires-3 cell-at-requires-4 returns returns-2)

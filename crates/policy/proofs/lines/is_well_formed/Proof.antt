@@ -45,10 +45,28 @@ is-formula-requires : tie.Need-is-formula-requires
 is-formula-requires c κs = search needs
 
 returns-3 : tie.Need-returns-3
-returns-3 c = c .is-formula .ensures ∙ line-opened (c .before .before .before .before .before .before .before .before .before .args .file .now) (c .before .before .before .before .before .before .before .before .before .args .start) (c .before .before .before .before .before .before .before .before .before .args .end) (c .before .before .before .before .before .before .before .before .before .pre .0) (c .before .before .before .before .before .before .before .before .before .pre .1) (omega (arith, feed-fits (c .before .before .before .before .before .before .before .before .before .args .file .now) (c .before .before .before .before .before .before .before .before .before .args .start) (omega arith), c .before .before .before .before .before .before .before .before .before .pre .1, c .before .before .before .before .before .before .before .if1 .left)) (c .before .before .before .before .before .before .if2 .left) (sym (c .before .before .before .is-opening .ensures) ∙ c .before .before .if3 .taken)
+returns-3 c =
+    let asked = c .before .before .before in
+    let long = asked .before .before .before in
+    let start = long .before .before .before in
+    let file = start .args .file .now in
+    let from = start .args .start in
+    let fits = feed-fits file from (omega arith) in
+    c .is-formula .ensures
+    ∙ line-opened file from (start .args .end) (start .pre .0) (start .pre .1) (omega (arith, fits, start .pre .1, long .before .if1 .left))
+    (long .if2 .left) (sym (asked .is-opening .ensures) ∙ c .before .before .if3 .taken)
 
 returns-4 : tie.Need-returns-4
-returns-4 c = line-unopened (c .before .before .before .before .before .before .before .args .file .now) (c .before .before .before .before .before .before .before .args .start) (c .before .before .before .before .before .before .before .args .end) (c .before .before .before .before .before .before .before .pre .0) (c .before .before .before .before .before .before .before .pre .1) (omega (arith, feed-fits (c .before .before .before .before .before .before .before .args .file .now) (c .before .before .before .before .before .before .before .args .start) (omega arith), c .before .before .before .before .before .before .before .pre .1, c .before .before .before .before .before .if1 .left)) (c .before .before .before .before .if2 .left) (sym (c .before .is-opening .ensures) ∙ c .if3 .left)
+returns-4 c =
+    let asked = c .before in
+    let long = asked .before .before .before in
+    let start = long .before .before .before in
+    let file = start .args .file .now in
+    let from = start .args .start in
+    let fits = feed-fits file from (omega arith) in
+    c .if3 .left
+    ∙ line-unopened file from (start .args .end) (start .pre .0) (start .pre .1) (omega (arith, fits, start .pre .1, long .before .if1 .left))
+    (long .if2 .left) (sym (asked .is-opening .ensures) ∙ c .if3 .left)
 
 pub is-well-formed-spec : {M : Type 1} → statement M
 is-well-formed-spec =
