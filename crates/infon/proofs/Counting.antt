@@ -1,9 +1,9 @@
 -- Counting numbers that pass a test: what one more number adds.
 -- Assumes nothing.
 use Prim.Native.Nat.{ℕ, zero, suc, _+_, _≤_, _<_}
-use mathlib.Core.Path.{_≡_, refl, sym, _∙_, ap, subst}
-use mathlib.Core.Logic.{_⊎_, inl, inr, ⊎-elim}
-use mathlib.Core.Bool.{Bool, true, false, cond, false≢true, true≢false}
+use mathlib.Core.Path.{_≡_, refl, sym, _∙_, ap}
+use mathlib.Core.Logic.{⊎-elim}
+use mathlib.Core.Bool.{Bool, true, false, cond}
 use mathlib.Core.List.{List, [], _∷_, List·Memᴰ, List·Memᴰ·head, List·Memᴰ·tail, List·Memᴰ·not-nil, List·Memᴰ·cases-cons}
 use native.Mathlib.Nat.{eq-or-lt-of-le}
 use native.Mathlib.Omega.{arith}
@@ -41,36 +41,6 @@ count-at-most test (n ∷ rest) =
     (λ (h : test n ≡ true). rw (count-passed test n rest h) (omega arith))
     (λ (h : test n ≡ false). rw (count-failed test n rest h) (omega arith))
     (decided (test n))
-
--- none passes where the count is 0
-pub count-none : (test : ℕ → Bool) (ns : List ℕ) → countOf test ns ≡ 0 → (n : ℕ) → List·Memᴰ n ns → test n ≡ false
-count-none test [] h n m = absurd (List·Memᴰ·not-nil m)
-count-none test (k ∷ rest) h n m =
-    ⊎-elim
-    (λ (p : test k ≡ true). absurd (impossible (sym (count-passed test k rest p) ∙ h)))
-    (λ (p : test k ≡ false).
-    ⊎-elim
-    (λ (e : n ≡ k). ap test e ∙ p)
-    (λ (i : List·Memᴰ n rest). count-none test rest (sym (count-failed test k rest p) ∙ h) n i)
-    (List·Memᴰ·cases-cons m))
-    (decided (test k))
-  where
-    impossible : {j : ℕ} → suc j ≡ 0 → ⊥
-    impossible e = omega arith
-
--- all pass where the count is the length
-pub count-all : (test : ℕ → Bool) (ns : List ℕ) → length ns ≤ countOf test ns → (n : ℕ) → List·Memᴰ n ns → test n ≡ true
-count-all test [] h n m = absurd (List·Memᴰ·not-nil m)
-count-all test (k ∷ rest) h n m =
-    ⊎-elim
-    (λ (p : test k ≡ true).
-    ⊎-elim
-    (λ (e : n ≡ k). ap test e ∙ p)
-    (λ (i : List·Memᴰ n rest). count-all test rest (let q = count-passed test k rest p in omega arith) n i)
-    (List·Memᴰ·cases-cons m))
-    (λ (p : test k ≡ false).
-    absurd (let q = count-failed test k rest p in let r = count-at-most test rest in omega arith))
-    (decided (test k))
 
 nothing-between : (i n : ℕ) → i ≤ n → n < i + 0 → ⊥
 nothing-between i n low high = omega arith

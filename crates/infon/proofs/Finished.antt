@@ -1,37 +1,31 @@
--- Completeness and counts: a finished journal records exactly the derivable formulas of the list, and a run adds as many records
--- as its limit allows or as are missing, the smaller.
+-- Completeness: a finished journal records exactly the derivable formulas of the list.
 -- Assumes nothing.
-use Prim.Native.Nat.{ℕ, zero, suc, _+_, _≤_, _<_, min}
-use native.Mathlib.Nat.{zero-min, suc-min-suc, min-zero}
-use native.Mathlib.Omega.{arith}
+use Prim.Native.Nat.{ℕ, _<_}
 use mathlib.Core.Path.{_≡_, refl, sym, _∙_, ap, subst}
-use mathlib.Core.Logic.{_⊎_, inl, inr, ⊎-elim}
-use mathlib.Core.Bool.{Bool, true, false, _&&_, _||_, not, false≢true}
+use mathlib.Core.Logic.{⊎-elim}
+use mathlib.Core.Bool.{true, false, not, false≢true}
 use mathlib.Core.Option.{Option, none, some}
-use mathlib.Core.List.{List, [], _∷_, _++_, append-nil, append-assoc, List·Memᴰ, List·Memᴰ·head, List·Memᴰ·tail, List·Memᴰ·append-cases, List·Memᴰ·eq-of-singleton, Memᴰ·append-left, Memᴰ·append-right}
-use lib.ListN.{length, getD, length-append}
-use lib.Dec.{ltb, eqb}
-use borrow.Author.Tests.{ltb-true, lt-ltb, eqb-true, eq-eqb, ne-eqb}
+use mathlib.Core.List.{List, List·Memᴰ}
+use lib.ListN.{length}
+use borrow.Author.Tests.{lt-ltb}
 use Rattle.infon.specs.declared.Way.{Way}
 use Rattle.infon.specs.declared.Way.the-variants.{Hypothesis, Given, Weaken, Left, Right, Both, Apply, Attach}
 use Rattle.infon.specs.declared.Record.{Record}
-use Rattle.infon.specs.Bytes.{someOf, firstOf}
+use Rattle.infon.specs.Bytes.{firstOf}
 use Rattle.infon.specs.Formula.{Formula, True, and, implies, isNamed, same}
 use Rattle.infon.specs.Listing.{Prefix, wrap, isListed}
 use Rattle.infon.specs.Calculus.{Weaker, Derives}
-use Rattle.infon.specs.Rules.{shapeOf, weakenings, isTruth, isLeft, isRight, areBoth, isConclusion, isCondition, numbered, gives}
-use Rattle.infon.specs.Journal.{isRecorded, premisesIn, isGood, numbersFrom, allRecords, next, hasNone, isFinished, followed, grown}
-use Rattle.infon.specs.Run.{isOnRecord, Missing, no-more, recorded, underivable, missing}
-use Rattle.infon.proofs.Rows.{and-true, true-and, decided, someOf-witness, witness-someOf}
+use Rattle.infon.specs.Rules.{shapeOf, isTruth, isLeft, isRight, areBoth, isConclusion, isCondition, numbered, gives}
+use Rattle.infon.specs.Journal.{isRecorded, premisesIn, isGood, allRecords, next, hasNone, isFinished}
+use Rattle.infon.specs.Run.{isOnRecord}
+use Rattle.infon.proofs.Rows.{true-and, decided, someOf-witness, witness-someOf}
 use Rattle.infon.proofs.Same.{same-refl, same-eq}
 use Rattle.infon.proofs.Prefixes.{listed-mem, mem-listed, shape-wrap-True, shape-wrap-and, shape-wrap-implies, weaker-weakenings}
 use Rattle.infon.proofs.Listed.{listed-number, numbered-mem}
 use Rattle.infon.proofs.Locality.{Closed, Complete, derivable-recorded}
-use Rattle.infon.proofs.Counting.{countOf, count-alike, count-at-most, count-none, count-all, count-gained, from-has, from-above, from-length}
 use Rattle.infon.proofs.Ascending.{first-none}
 use Rattle.infon.proofs.Least.{PremisesBelow, all-has}
-use Rattle.infon.proofs.Grown.{GoodRow, stop, more}
-use Rattle.infon.proofs.Sound.{Sound, good-is, good-derives, premise-derived, recorded-by, by-recorded, sound-more, sound-row}
+use Rattle.infon.proofs.Sound.{Sound, premise-derived, recorded-by, by-recorded}
 
 has-none : (o : Option Record) → hasNone o ≡ true → o ≡ none
 unfolding hasNone

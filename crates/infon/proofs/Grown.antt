@@ -11,7 +11,7 @@ use mathlib.Core.Option.{Option, none, some, Option·none-ne-some, Option·some-
 use mathlib.Core.List.{List, [], _∷_, _++_, map, append-assoc, append-nil, List·Memᴰ, List·Memᴰ·head, List·Memᴰ·tail, List·Memᴰ·append-cases, List·Memᴰ·eq-of-singleton, List·Memᴰ·cases-cons, List·Memᴰ·not-nil, nil≢cons, cons≢nil, head-eq-of-cons-eq, tail-eq-of-cons-eq}
 use lib.ListN.{length, take, drop, getD, take-append-drop}
 use lib.Dec.{ltb, eqb}
-use lib.Seq.{take-nil, take-append-seam}
+use lib.Seq.{take-nil, take-all, take-append-seam}
 use borrow.Author.Tests.{ltb-true, eqb-true, not-true}
 use Rattle.infon.specs.declared.Way.{Way}
 use Rattle.infon.specs.declared.Way.the-variants.{Hypothesis, Given, Weaken, Left, Right, Both, Apply, Attach}
@@ -307,7 +307,14 @@ module _ (hyps fs : List Formula) where
   pub take-grown : (done : List Record) (k n : ℕ) → take k (grown hyps fs done n) ≡ grown hyps fs done (min k n)
   take-grown done k n = growth-take done (grown hyps fs done n) k n (grown-growth done n)
 
-  finished-add : (done : List Record) (m n : ℕ) → isFinished hyps fs (done ++ grown hyps fs done m) ≡ true → grown hyps fs done (m + n) ≡ grown hyps fs done m
+  -- where a limit greater by one would not be reached, a row ends finished
+  pub grown-full : (done : List Record) (n : ℕ) → length (grown hyps fs done (suc n)) ≤ n → isFinished hyps fs (done ++ grown hyps fs done n) ≡ true
+  grown-full done n h =
+      let longer = grown hyps fs done (suc n) in
+      let same : longer ≡ grown hyps fs done n = sym (take-all n longer h) ∙ take-grown done n (suc n) ∙ ap (grown hyps fs done) (omega arith) in
+      rw (← same) (grown-finished done (suc n) (suc-le-suc h))
+
+  pub finished-add : (done : List Record) (m n : ℕ) → isFinished hyps fs (done ++ grown hyps fs done m) ≡ true → grown hyps fs done (m + n) ≡ grown hyps fs done m
   finished-add done m n e = rw (grown-add done m n, finished-grown (done ++ grown hyps fs done m) n e, append-nil)
 
   -- two rows grown from the same records that both end finished are the same

@@ -1,28 +1,27 @@
 -- Counts: a row of good records has no number twice and so at most L records; a run adds as many records as its limit allows or
--- as are missing, the smaller.
+-- as are missing, the smaller, and ends finished exactly if its limit allows as many as are missing.
 -- Assumes nothing.
 use Prim.Native.Nat.{ℕ, zero, suc, _+_, _≤_, _<_, min}
-use native.Mathlib.Nat.{zero-min, suc-min-suc, min-zero, eq-or-lt-of-le}
+use native.Mathlib.Nat.{zero-min, suc-min-suc, min-zero}
 use native.Mathlib.Omega.{arith}
 use mathlib.Core.Path.{_≡_, refl, sym, _∙_, ap, subst}
-use mathlib.Core.Logic.{_⊎_, inl, inr, ⊎-elim}
+use mathlib.Core.Logic.{_⊎_, inl, inr, ⊎-elim, _↔_}
 use mathlib.Core.Bool.{Bool, true, false, _&&_, _||_, not, or-assoc, or-true, or-false, and-false, false≢true}
 use mathlib.Core.Option.{Option, none, some}
-use mathlib.Core.List.{List, [], _∷_, _++_, append-nil, append-assoc, List·Memᴰ}
-use lib.ListN.{length, getD, drop, length-append}
+use mathlib.Core.List.{List, [], _∷_, _++_, append-nil, append-assoc}
+use lib.ListN.{length, length-append}
 use lib.Dec.{eqb}
-use lib.Seq.{drop-cons}
-use borrow.Author.Tests.{eq-eqb, ne-eqb, ltb-true}
+use borrow.Author.Tests.{eq-eqb, ne-eqb}
 use Rattle.infon.specs.declared.Record.{Record}
 use Rattle.infon.specs.Bytes.{someOf}
-use Rattle.infon.specs.Formula.{Formula, True}
+use Rattle.infon.specs.Formula.{Formula}
 use Rattle.infon.specs.Calculus.{Derives}
 use Rattle.infon.specs.Rules.{numbered}
 use Rattle.infon.specs.Journal.{isRecorded, isGood, numbersFrom, next, isFinished, hasNone, followed, grown}
 use Rattle.infon.specs.Run.{Missing, no-more, recorded, underivable, missing}
 use Rattle.infon.proofs.Rows.{decided}
-use Rattle.infon.proofs.Counting.{countOf, count-passed, count-failed, count-alike, count-at-most, count-none, count-all, count-gained, from-has, from-above, from-length}
-use Rattle.infon.proofs.Grown.{GoodRow, stop, more, grown-good, good-append, finished-grown, grown-finished, grown-short, next-good}
+use Rattle.infon.proofs.Counting.{countOf, count-passed, count-failed, count-alike, count-at-most, count-gained, from-above, from-length}
+use Rattle.infon.proofs.Grown.{GoodRow, stop, more, grown-good, good-append, finished-grown, grown-full, finished-add, next-good}
 use Rattle.infon.proofs.Sound.{Sound, good-is, good-derives, premise-derived, sound-more, sound-row, sound-empty}
 use Rattle.infon.proofs.Finished.{List-of, derivable-recorded-number}
 
@@ -52,9 +51,6 @@ pub recorded-other : (n : ℕ) (done : List Record) (r : Record) → (n ≡ r .f
 recorded-other n done r apart =
     recorded-more n done r
     ∙ (ap (λ (b : Bool). isRecorded n done || b) (ne-eqb n (r .formula) apart) ∙ or-false (isRecorded n done))
-
-full-or-short : {m n : ℕ} → m ≤ n → (n ≡ m) ⊎ (m < n)
-full-or-short h = ⊎-elim (λ e. inl (sym e)) (λ l. inr l) (eq-or-lt-of-le h)
 
 module _ (hyps fs : List Formula) where
   -- how many numbers of the list the records have
@@ -99,25 +95,14 @@ module _ (hyps fs : List Formula) where
       by none e = inl (ap hasNone e)
       by (some r) e = inr (r, e)
 
-  -- what a limit of L leaves is finished: fewer records were added, or every number is recorded
-  pub grown-all : (done : List Record) → GoodRow hyps fs [] done
-      → isFinished hyps fs (done ++ grown hyps fs done (length fs)) ≡ true
-  unfolding recordedCount
-  grown-all done row =
-      let added = grown hyps fs done (length fs) in
-      ⊎-elim
-      (λ (long : length fs ≡ length added).
-      let count = row-count [] (done ++ added) (good-append hyps fs [] done added row (grown-good hyps fs done (length fs))) in
-      let sum = length-append done added in
-      let size = from-length 0 (length fs) in
-      let full = count-all (λ (n : ℕ). isRecorded n (done ++ added)) (numbersFrom 0 (length fs)) (omega arith) in
-      ⊎-elim (λ finished. finished)
-      (λ due.
-      let good = good-is hyps fs (done ++ added) (due .0) (next-good hyps fs (done ++ added) (due .0) (due .1)) in
-      absurd (false≢true (sym (good .fresh) ∙ full (due .0 .formula) (from-has 0 (length fs) (due .0 .formula) (omega arith) (let low = good .below in omega arith)))))
-      (finished-or-next (done ++ added)))
-      (λ (short : length added < length fs). grown-finished hyps fs done (length fs) short)
-      (full-or-short (grown-short hyps fs done (length fs)))
+  -- what a limit of L or more leaves is finished
+  pub grown-all : (done : List Record) (n : ℕ) → GoodRow hyps fs [] done → length fs ≤ n
+      → isFinished hyps fs (done ++ grown hyps fs done n) ≡ true
+  grown-all done n row enough =
+      let longer = grown hyps fs done (suc n) in
+      let most = row-short (done ++ longer) (good-append hyps fs [] done longer row (grown-good hyps fs done (suc n))) in
+      let sum = length-append done longer in
+      grown-full hyps fs done n (omega arith)
 
   grown-next : (done : List Record) (n : ℕ) (r : Record) → next hyps fs done ≡ some r
       → grown hyps fs done (suc n) ≡ r ∷ grown hyps fs (done ++ (r ∷ [])) n
@@ -138,7 +123,7 @@ module _ (hyps fs : List Formula) (lists : List-of hyps fs) where
 
   final-finished : isFinished hyps fs final ≡ true
   unfolding final
-  final-finished = grown-all hyps fs [] (stop [])
+  final-finished = grown-all hyps fs [] (length fs) (stop []) (omega arith)
 
   derivable-final : (n : ℕ) → n < length fs → Derives hyps (numbered fs n) → isRecorded n final ≡ true
   derivable-final n low d = derivable-recorded-number hyps fs lists final n final-sound final-finished low d
@@ -247,13 +232,29 @@ module _ (hyps fs : List Formula) (lists : List-of hyps fs) where
       (decided (isRecorded i final)))
       (decided (isRecorded i done))
 
-  -- some number is missing, and a run adds the smaller of its limit and that number
+  missing-is : (done : List Record) (m : ℕ) → Missing hyps done 0 fs m → m ≡ missingCount done
+  unfolding missingCount
+  missing-is done m h = missing-counted done 0 fs m (λ k low. ap (numbered fs) (omega arith)) (omega arith) h
+
+  -- some number is missing, and no other
   pub missing-exists : (done : List Record) → (m : ℕ) × Missing hyps done 0 fs m
   missing-exists done = some-missing done 0 fs (λ k low. ap (numbered fs) (omega arith)) (omega arith)
 
+  pub missing-once : (done : List Record) (m n : ℕ) → Missing hyps done 0 fs m → Missing hyps done 0 fs n → m ≡ n
+  missing-once done m n one other = missing-is done m one ∙ sym (missing-is done n other)
+
+  -- a run adds the smaller of its limit and that number, and ends finished exactly if its limit reaches that number
   pub adds-smaller : (done : List Record) (n m : ℕ) → GoodRow hyps fs [] done → Missing hyps done 0 fs m
       → length (grown hyps fs done n) ≡ min n m
-  unfolding missingCount
-  adds-smaller done n m row h =
-      grown-count done n (row-sound done row)
-      ∙ ap (min n) (sym (missing-counted done 0 fs m (λ k low. ap (numbered fs) (omega arith)) (omega arith) h))
+  adds-smaller done n m row h = grown-count done n (row-sound done row) ∙ ap (min n) (sym (missing-is done m h))
+
+  pub finishes-exactly : (done : List Record) (n m : ℕ) → GoodRow hyps fs [] done → Missing hyps done 0 fs m
+      → (isFinished hyps fs (done ++ grown hyps fs done n) ≡ true) ↔ (m ≤ n)
+  finishes-exactly done n m row h = (
+    λ finished.
+        let most = adds-smaller done (n + m) m row h in
+        let here = adds-smaller done n m row h in
+        let same = ap length (finished-add hyps fs done n m finished) in
+        omega arith,
+    λ enough. let most = adds-smaller done (suc n) m row h in grown-full hyps fs done n (omega arith),
+  )
