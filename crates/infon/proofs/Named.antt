@@ -1,20 +1,20 @@
--- Every formula on a file's list is one of the language: its names are names.
+-- Every formula on a file's list is one of the language: its names are names. So is every formula that derives from a file.
 -- Assumes nothing.
 use Prim.Native.Nat.{ℕ}
-use mathlib.Core.Path.{_≡_, refl, sym, _∙_, ap, subst}
-use mathlib.Core.Logic.{_⊎_, inl, inr, ⊎-elim}
-use mathlib.Core.Bool.{Bool, true, false, _&&_}
+use mathlib.Core.Path.{_≡_, refl, _∙_, ap}
+use mathlib.Core.Logic.{⊎-elim}
+use mathlib.Core.Bool.{Bool, true}
 use mathlib.Core.Option.{Option, none, some}
-use mathlib.Core.List.{List, [], _∷_, _++_, List·Memᴰ, List·Memᴰ·head, List·Memᴰ·tail, List·Memᴰ·not-nil, List·Memᴰ·cases-cons, List·Memᴰ·append-cases}
+use mathlib.Core.List.{List, [], _∷_, List·Memᴰ, List·Memᴰ·head, List·Memᴰ·tail, List·Memᴰ·not-nil, List·Memᴰ·cases-cons, List·Memᴰ·append-cases}
 use Rattle.infon.specs.Bytes.{every}
 use Rattle.infon.specs.Formula.{Quotation, Formula, True, name, and, implies, quoted, isName, isNamed}
-use Rattle.infon.specs.Policy.{Line, Sentence, Entry, withEntry, entriesFrom, entriesOf, linesOf, sentenceOf, formulaIn}
+use Rattle.infon.specs.Policy.{Line, Sentence, Entry, withEntry, entriesFrom, entriesOf, linesOf, sentenceOf, formulaIn, hypothesesOf}
 use Rattle.infon.specs.Listing.{Prefix, wrap, weakened, weakenedBases, listOf}
-use Rattle.infon.specs.Calculus.{Weaker, end, unchanged, lowered}
+use Rattle.infon.specs.Calculus.{under, Weaker, end, unchanged, lowered, Derives, hypothesis, given, weaken, left, right, both, apply, attach}
 use Rattle.infon.proofs.Rows.{and-true, true-and}
 use Rattle.infon.proofs.Prefixes.{mem-weakened}
 use Rattle.infon.proofs.Lines.{line-read}
-use Rattle.infon.proofs.Listed.{unskipped, listOf-only}
+use Rattle.infon.proofs.Listed.{unskipped, listOf-only, hypotheses-listed}
 
 -- the principals of a prefix are names
 principalsNamed : Prefix → Bool
@@ -94,3 +94,46 @@ pub listed-named : (file : List ℕ) (z : Formula) → List·Memᴰ z (listOf (e
 unfolding entriesOf
 listed-named file z m =
     unskipped-named (entriesFrom (linesOf file)) (entries-named (linesOf file)) z (listOf-only (entriesFrom (linesOf file)) m)
+
+under-parts : (pref : List Quotation) (x : Formula) → isNamed (under pref x) ≡ true → (principalsNamed pref ≡ true) × (isNamed x ≡ true)
+unfolding under isNamed principalsNamed every
+under-parts [] x h = (refl, h)
+under-parts (q ∷ pref) x h =
+    let parts = and-true (isName (q .principal)) (isNamed (under pref x)) h in
+    let inside = under-parts pref x (parts .1) in
+    (true-and (parts .0) (inside .0), inside .1)
+
+under-named : (pref : List Quotation) (x : Formula) → principalsNamed pref ≡ true → isNamed x ≡ true → isNamed (under pref x) ≡ true
+unfolding under isNamed principalsNamed every
+under-named [] x hp hx = hx
+under-named (q ∷ pref) x hp hx =
+    let parts = and-true (isName (q .principal)) (principalsNamed pref) hp in
+    true-and (parts .0) (under-named pref x (parts .1) hx)
+
+-- what a derivation from hypotheses of the language reaches is of the language; so is what it passes through, which it reaches too
+pub derived-named : (hyps : List Formula) → ((h : Formula) → List·Memᴰ h hyps → isNamed h ≡ true) → (z : Formula) → Derives hyps z
+    → isNamed z ≡ true
+unfolding isNamed
+derived-named hyps named z (hypothesis x m) = named z m
+derived-named hyps named z (given pref h) = h
+derived-named hyps named z (weaken weak strong x le d) =
+    let from = under-parts strong x (derived-named hyps named (under strong x) d) in
+    under-named weak x (weaker-named le (from .0)) (from .1)
+derived-named hyps named z (left pref x y d) =
+    let from = under-parts pref (and x y) (derived-named hyps named (under pref (and x y)) d) in
+    under-named pref x (from .0) (and-true (isNamed x) (isNamed y) (from .1) .0)
+derived-named hyps named z (right pref x y d) =
+    let from = under-parts pref (and x y) (derived-named hyps named (under pref (and x y)) d) in
+    under-named pref y (from .0) (and-true (isNamed x) (isNamed y) (from .1) .1)
+derived-named hyps named z (both pref x y dx dy) =
+    let one = under-parts pref x (derived-named hyps named (under pref x) dx) in
+    let other = under-parts pref y (derived-named hyps named (under pref y) dy) in
+    under-named pref (and x y) (one .0) (true-and (one .1) (other .1))
+derived-named hyps named z (apply pref x y dx di) =
+    let from = under-parts pref (implies x y) (derived-named hyps named (under pref (implies x y)) di) in
+    under-named pref y (from .0) (and-true (isNamed x) (isNamed y) (from .1) .1)
+derived-named hyps named z (attach pref x y h d) = h
+
+pub file-derived-named : (file : List ℕ) (z : Formula) → Derives (hypothesesOf (entriesOf file)) z → isNamed z ≡ true
+file-derived-named file =
+    derived-named (hypothesesOf (entriesOf file)) (λ h m. listed-named file h (hypotheses-listed (entriesOf file) h m))

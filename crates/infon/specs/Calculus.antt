@@ -26,7 +26,7 @@ pub data Weaker : List Quotation → List Quotation → Type 0 where
 
 -- Derives hyps x: some derivation reaches x from the hypotheses. A derivation is a chain in the paper; here it is the tree of
 -- its steps, and the constructors are rules 1 to 8. Rules 2 and 8 bring in what no premise has: there the names are asked to be
--- names of the language, so that a derivation from hypotheses of the language stays in the language.
+-- names of the language, so that a derivation from hypotheses of the language stays in the language (the law `derived-named`).
 pub data Derives (hyps : List Formula) : Formula → Type 0 where
   hypothesis : (x : Formula) → List·Memᴰ x hyps → Derives hyps x
   given : (pref : List Quotation) → isNamed (under pref True) ≡ true → Derives hyps (under pref True)
