@@ -42,6 +42,10 @@ module _ (buffer : List ℕ) (at : ℕ) (new : List ℕ) (fits : at + length new
   unfolding written
   take-written = rw (← append-assoc) (take-at (take at buffer ++ new) (drop (at + length new) buffer) (at + length new) length-front-written)
 
+  pub take-before-written : take at (written buffer at new) ≡ take at buffer
+  unfolding written
+  take-before-written = take-at (take at buffer) (new ++ drop (at + length new) buffer) at (length-take-le at buffer (omega arith))
+
   pub drop-written : drop (at + length new) (written buffer at new) ≡ drop (at + length new) buffer
   unfolding written
   drop-written = rw (← append-assoc) (drop-at (take at buffer ++ new) (drop (at + length new) buffer) (at + length new) length-front-written)
@@ -269,20 +273,6 @@ ended-same hyps fs one other first second done-one done-other =
       first .reaches ∙ ap (λ (row : List Record). recordBytes * length row) same ∙ sym (second .reaches),
       first .spells ∙ ap spelledAll same ∙ sym (second .spells),
     )
-
--- Cut wherever and however often, a journal ends as the uncut one does.
-pub cut-uncut : (file journal : List ℕ) (used limit : ℕ) (answers journal₀ : List ℕ) (limit₀ : ℕ) (answers₀ : List ℕ)
-    → length (listOf (entriesOf file)) ≤ 4096 → Reached file journal used
-    → run file journal used limit answers .report .code ≡ 0 → run file journal used limit answers .report .finished ≡ true
-    → run file journal₀ 0 limit₀ answers₀ .report .code ≡ 0 → run file journal₀ 0 limit₀ answers₀ .report .finished ≡ true
-    → (run file journal used limit answers .report .used ≡ run file journal₀ 0 limit₀ answers₀ .report .used)
-    × (take (run file journal used limit answers .report .used) (run file journal used limit answers .journal)
-    ≡ take (run file journal₀ 0 limit₀ answers₀ .report .used) (run file journal₀ 0 limit₀ answers₀ .journal))
-cut-uncut file journal used limit answers journal₀ limit₀ answers₀ short reached code finished code₀ finished₀ =
-    ended-same (hypothesesOf (entriesOf file)) (listOf (entriesOf file)) (run file journal used limit answers) (run file journal₀ 0 limit₀ answers₀)
-    (run-ended file short journal used limit answers (reached-standing file short journal used reached) code)
-    (run-ended file short journal₀ 0 limit₀ answers₀ (reached-standing file short journal₀ 0 (begun journal₀)) code₀)
-    finished finished₀
 
 -- a run with code 0 was over an accepted file
 pub code-accepted : (file journal : List ℕ) (used limit : ℕ) (answers : List ℕ) → run file journal used limit answers .report .code ≡ 0

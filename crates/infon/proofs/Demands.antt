@@ -1,39 +1,41 @@
 -- The three demands of the mission, as theorems about the definitions. Each stands under its plain sentence; the work is elsewhere.
 -- Assumes nothing.
-use Prim.Native.Nat.{ℕ, zero, suc, _+_, _*_, _/_, _≤_, _<_, min}
+use Prim.Native.Nat.{ℕ, _+_, _*_, _/_, _≤_, _<_, min}
+use native.Mathlib.Nat.{le-refl}
 use native.Mathlib.Omega.{arith}
 use mathlib.Core.Path.{_≡_, refl, sym, _∙_, ap, subst}
-use mathlib.Core.Logic.{_⊎_, inl, inr, ⊎-elim, _↔_}
-use mathlib.Core.Bool.{Bool, true, false, false≢true}
-use mathlib.Core.Option.{Option, none, some}
-use mathlib.Core.List.{List, [], _∷_, _++_, map, List·Memᴰ}
-use lib.ListN.{length, take, drop, getD, length-append, length-map, List·getD-append, List·getD-map}
+use mathlib.Core.Logic.{_⊎_, ⊎-elim, _↔_}
+use mathlib.Core.Bool.{Bool, true, false}
+use mathlib.Core.Option.{some}
+use mathlib.Core.List.{List, [], _∷_, _++_, map}
+use lib.ListN.{length, take, drop, getD, length-append, length-map, List·getD-append}
 use lib.Dec.{ltb}
+use lib.Seq.{take-at, take-length}
 use borrow.Author.Tests.{le-ltb}
 use Rattle.infon.specs.declared.Record.{Record}
 use Rattle.infon.specs.declared.Answer.{Answer}
-use Rattle.infon.specs.declared.Answer.the-variants.{No, Yes, Open}
+use Rattle.infon.specs.declared.Answer.the-variants.{Open}
 use Rattle.infon.specs.Formula.{Formula, True, isNamed, spelling}
 use Rattle.infon.specs.Policy.{entriesOf, hypothesesOf, queriesOf, passed}
 use Rattle.infon.specs.Listing.{isListed, listOf}
 use Rattle.infon.specs.Calculus.{Derives}
 use Rattle.infon.specs.Rules.{numbered}
-use Rattle.infon.specs.Journal.{isRecorded, isGood, recordBytes, spelledAll, decoded, wholeRecords, keptOf, allRecords, next, isFinished, grown}
-use Rattle.infon.specs.Run.{answerByte, answerOf, isOnRecord, answersOf, fileVerdict, code9, Missing, Outcome, refusal, written, success, run}
+use Rattle.infon.specs.Journal.{isRecorded, isGood, recordBytes, spelledAll, decoded, wholeRecords, keptAfter, keptOf, allRecords, next, isFinished, grown}
+use Rattle.infon.specs.Run.{answerByte, answerOf, isOnRecord, answersOf, code9, Missing, Outcome, refusal, written, success, run}
 use Rattle.infon.proofs.Rows.{decided, getD-map}
-use Rattle.infon.proofs.Codec.{AreBytes}
+use Rattle.infon.proofs.Codec.{AreBytes, length-spelledAll, wholeRecords-cong}
 use Rattle.infon.proofs.Listed.{list-closed, hypotheses-listed, queries-listed, numbered-injective, code5-passed, numbered-mem}
 use Rattle.infon.proofs.Prefixes.{mem-listed}
 use Rattle.infon.proofs.Readable.{spelled-alike}
 use Rattle.infon.proofs.Named.{listed-named}
 use Rattle.infon.proofs.Ascending.{first-least}
-use Rattle.infon.proofs.Least.{Before, PremisesBelow, all-ascend, all-has}
-use Rattle.infon.proofs.Grown.{GoodRow, good-fresh, kept-decoded, kept-longest, kept-spelled, kept-good, grown-good, good-append}
-use Rattle.infon.proofs.Cuts.{Reached, cut-uncut, success-spells, run-cases, code-accepted, accepted-code5}
-use Rattle.infon.proofs.Refusals.{Rule, when-false, used-too-long, no-room, accepted-exactly}
+use Rattle.infon.proofs.Least.{Before, all-ascend, all-has}
+use Rattle.infon.proofs.Grown.{GoodRow, good-fresh, kept-decoded, kept-longest, kept-spelled, kept-of-spelled, kept-good, grown-good, good-append}
+use Rattle.infon.proofs.Cuts.{Reached, take-before-written, run-ended, reached-standing, ended-same, success-spells, run-cases, code-accepted, accepted-code5}
+use Rattle.infon.proofs.Refusals.{when-false, used-too-long, no-room, accepted-exactly}
 use Rattle.infon.proofs.Sound.{Sound, good-is, premises-below, premise-derived, sound-row, sound-empty}
 use Rattle.infon.proofs.Finished.{List-of, derivable-answered, answered-derivable, derivable-recorded-number}
-use Rattle.infon.proofs.Missing.{row-short, missing-exists, adds-smaller}
+use Rattle.infon.proofs.Missing.{row-short, grown-all, missing-exists, missing-once, adds-smaller, finishes-exactly}
 
 -- ---- Names for what a file and a call are about
 
@@ -69,14 +71,32 @@ list-of file =
       named = listed-named file;
     }
 
+-- "The kept part is the longest row of whole nine-byte records at the journal's start, inside the used length, each good after
+-- those before it": it is such a row, ..
+pub kept-is-such-a-row : (file journal : List ℕ) (used : ℕ)
+    → GoodRow (hypothesesIn file) (listIn file) [] (keptIn file journal used)
+    × (map decoded (take (length (keptIn file journal used)) (wholeRecords (used / recordBytes) journal))
+    ≡ map some (keptIn file journal used))
+unfolding keptOf
+kept-is-such-a-row file journal used =
+    let rows = wholeRecords (used / recordBytes) journal in
+    (kept-good (hypothesesIn file) (listIn file) [] rows, kept-decoded (hypothesesIn file) (listIn file) [] rows)
+
+-- .. and it begins with every such row.
+pub kept-is-longest : (file journal : List ℕ) (used : ℕ) (row : List Record) → GoodRow (hypothesesIn file) (listIn file) [] row
+    → map decoded (take (length row) (wholeRecords (used / recordBytes) journal)) ≡ map some row
+    → take (length row) (keptIn file journal used) ≡ row
+unfolding keptOf
+kept-is-longest file journal used row good spelled =
+    kept-longest (hypothesesIn file) (listIn file) [] row (wholeRecords (used / recordBytes) journal) good spelled
+
 row-of : (file journal : List ℕ) (used limit : ℕ)
     → GoodRow (hypothesesIn file) (listIn file) [] (leftIn file journal used limit)
-unfolding keptOf
 row-of file journal used limit =
     let hyps = hypothesesIn file in
     let fs = listIn file in
-    good-append hyps fs [] (keptIn file journal used) (addedIn file journal used limit)
-    (kept-good hyps fs [] (wholeRecords (used / recordBytes) journal)) (grown-good hyps fs (keptIn file journal used) limit)
+    good-append hyps fs [] (keptIn file journal used) (addedIn file journal used limit) (kept-is-such-a-row file journal used .0)
+    (grown-good hyps fs (keptIn file journal used) limit)
 
 sound-of : (file journal : List ℕ) (used limit : ℕ) → Sound (hypothesesIn file) (listIn file) (leftIn file journal used limit)
 sound-of file journal used limit =
@@ -114,12 +134,16 @@ whole-within used size h = omega arith
 one-not-zero : _≡_ {A = ℕ} 1 0 → ⊥
 one-not-zero e = omega arith
 
-room : (kept added : List Record) (journal : List ℕ) → (length journal < recordBytes * (length kept + length added) → ⊥)
+nine-times : (n : ℕ) → recordBytes * n / recordBytes ≡ n
+unfolding recordBytes
+nine-times n = omega arith
+
+room : (kept added : List Record) (journal : List ℕ) → recordBytes * (length kept + length added) ≤ length journal
     → code9 kept added journal ≡ passed
 unfolding code9
 room kept added journal h =
     when-false (ltb (length journal) (recordBytes * (length kept + length added))) 9 0
-    (le-ltb (length journal) (recordBytes * (length kept + length added)) (not-below h))
+    (le-ltb (length journal) (recordBytes * (length kept + length added)) h)
 
 module _ (file journal : List ℕ) (used limit : ℕ) (answers : List ℕ) (accepted : run file journal used limit answers .report .code ≡ 0) where
   outcome-is : run file journal used limit answers
@@ -136,6 +160,10 @@ module _ (file journal : List ℕ) (used limit : ℕ) (answers : List ℕ) (acce
       (λ code place least zero-code. absurd (omega arith))
       (λ kept added keeps adds verdict room zero-code. cc)
       accepted
+
+  -- "At most 4,096 formulas can come up in deciding it."
+  pub list-short : length (listIn file) ≤ 4096
+  list-short = code5-passed (entriesOf file) (accepted-code5 file (code-accepted file journal used limit answers accepted))
 
   finished-is : run file journal used limit answers .report .finished
       ≡ isFinished (hypothesesIn file) (listIn file) (leftIn file journal used limit)
@@ -219,18 +247,54 @@ module _ (file journal : List ℕ) (used limit : ℕ) (answers : List ℕ) (acce
   -- "Each run adds as many records as its limit allows or as are missing, the smaller, and reports that number."
   pub adds : (m : ℕ) → Missing (hypothesesIn file) (keptIn file journal used) 0 (listIn file) m
       → run file journal used limit answers .report .added ≡ min limit m
-  unfolding success keptOf
+  unfolding success
   adds m h =
       ap (λ (o : Outcome). o .report .added) outcome-is
       ∙ adds-smaller (hypothesesIn file) (listIn file) (list-of file) (keptIn file journal used) limit m
-      (kept-good (hypothesesIn file) (listIn file) [] (wholeRecords (used / recordBytes) journal)) h
+      (kept-is-such-a-row file journal used .0) h
+
+  -- "whether the journal is finished": it is exactly if the limit allows as many records as are missing, ..
+  pub finished-exactly : (m : ℕ) → Missing (hypothesesIn file) (keptIn file journal used) 0 (listIn file) m
+      → (run file journal used limit answers .report .finished ≡ true) ↔ (m ≤ limit)
+  finished-exactly m h =
+      rw finished-is
+      (finishes-exactly (hypothesesIn file) (listIn file) (list-of file) (keptIn file journal used) limit m
+      (kept-is-such-a-row file journal used .0) h)
+
+  -- .. and a limit of L always does.
+  pub finished-by-the-list : length (listIn file) ≤ limit → run file journal used limit answers .report .finished ≡ true
+  finished-by-the-list enough =
+      finished-is
+      ∙ grown-all (hypothesesIn file) (listIn file) (keptIn file journal used) limit (kept-is-such-a-row file journal used .0) enough
+
+  has-room : recordBytes * (length (keptIn file journal used) + length (addedIn file journal used limit)) ≤ length journal
+  has-room = not-below (λ h. accepted-exactly file journal used limit answers .0 accepted 9 0 (no-room h))
 
   -- "The longest beginning in which every record is good, its formula new and following from the file and earlier records, is
-  -- kept": the report says how many, and the bytes that the call leaves in use spell them and then the added ones.
+  -- kept" (which row that is, `kept-is-such-a-row` and `kept-is-longest` say): the report says how many, ..
   pub keeps : run file journal used limit answers .report .kept ≡ length (keptIn file journal used)
   unfolding success
   keeps = ap (λ (o : Outcome). o .report .kept) outcome-is
 
+  -- .. and their bytes stay.
+  pub kept-stay : take (recordBytes * length (keptIn file journal used)) (run file journal used limit answers .journal)
+      ≡ take (recordBytes * length (keptIn file journal used)) journal
+  unfolding success recordBytes
+  kept-stay =
+      let added = addedIn file journal used limit in
+      let start = recordBytes * length (keptIn file journal used) in
+      let size = length-spelledAll added in
+      let fits = has-room in
+      ap (λ (o : Outcome). take start (o .journal)) outcome-is ∙ take-before-written journal start (spelledAll added) (omega arith)
+
+  -- "the new used length, nine times the sum of kept and added": the bytes in use ..
+  pub uses : run file journal used limit answers .report .used ≡ recordBytes * length (leftIn file journal used limit)
+  unfolding success
+  uses =
+      ap (λ (o : Outcome). o .report .used) outcome-is
+      ∙ ap (λ (n : ℕ). recordBytes * n) (sym (length-append (keptIn file journal used) (addedIn file journal used limit)))
+
+  -- .. spell the kept records and then the added ones, ..
   pub leaves : AreBytes journal
       → take (run file journal used limit answers .report .used) (run file journal used limit answers .journal)
       ≡ spelledAll (leftIn file journal used limit)
@@ -243,8 +307,25 @@ module _ (file journal : List ℕ) (used limit : ℕ) (answers : List ℕ) (acce
       let fits = not-below (λ (h : length journal < used). accepted-exactly file journal used limit answers .0 accepted 7 0 (used-too-long h)) in
       ap (λ (o : Outcome). take (o .report .used) (o .journal)) outcome-is
       ∙ success-spells hyps fs (queriesIn file) kept added journal answers
-      (kept-spelled hyps fs [] (used / recordBytes) journal bytes (whole-within used (length journal) fits))
-      (room kept added journal (λ h. accepted-exactly file journal used limit answers .0 accepted 9 0 (no-room h)))
+      (kept-spelled hyps fs [] (used / recordBytes) journal bytes (whole-within used (length journal) fits)) (room kept added journal has-room)
+
+  -- .. and whoever reads them back keeps exactly these records, whatever stands behind those bytes.
+  pub read-back : AreBytes journal → (after : List ℕ)
+      → take (run file journal used limit answers .report .used) after
+      ≡ take (run file journal used limit answers .report .used) (run file journal used limit answers .journal)
+      → keptIn file after (run file journal used limit answers .report .used) ≡ leftIn file journal used limit
+  unfolding keptOf
+  read-back bytes after same =
+      let hyps = hypothesesIn file in
+      let fs = listIn file in
+      let left = leftIn file journal used limit in
+      let begins : take (recordBytes * length left) after ≡ take (recordBytes * length left) (spelledAll left ++ []) =
+      ap (λ (n : ℕ). take n after) (sym uses)
+      ∙ (same ∙ (leaves bytes ∙ sym (take-at (spelledAll left) [] (recordBytes * length left) (length-spelledAll left)))) in
+      ap (λ (n : ℕ). keptAfter hyps fs [] (wholeRecords (n / recordBytes) after)) uses
+      ∙ (ap (λ (n : ℕ). keptAfter hyps fs [] (wholeRecords n after)) (nine-times (length left))
+      ∙ (ap (keptAfter hyps fs []) (wholeRecords-cong (length left) after (spelledAll left ++ []) begins)
+      ∙ (kept-of-spelled hyps fs list-short left [] (length left) (row-of file journal used limit) (le-refl (length left)) ∙ take-length left)))
 
   -- ".. the finished journal then records exactly the derivable formulas of the file's list, .."
   pub records-exactly : run file journal used limit answers .report .finished ≡ true → (n : ℕ) → n < length (listIn file)
@@ -264,31 +345,18 @@ each-once file journal used limit before after r row =
     good-fresh (hypothesesIn file) (listIn file) [] before after r
     (subst (GoodRow (hypothesesIn file) (listIn file) []) row (row-of file journal used limit))
 
--- "The kept part is the longest row of whole nine-byte records at the journal's start, inside the used length, each good after
--- those before it": it is such a row, ..
-pub kept-is-such-a-row : (file journal : List ℕ) (used : ℕ)
-    → GoodRow (hypothesesIn file) (listIn file) [] (keptIn file journal used)
-    × (map decoded (take (length (keptIn file journal used)) (wholeRecords (used / recordBytes) journal))
-    ≡ map some (keptIn file journal used))
-unfolding keptOf
-kept-is-such-a-row file journal used =
-    let rows = wholeRecords (used / recordBytes) journal in
-    (kept-good (hypothesesIn file) (listIn file) [] rows, kept-decoded (hypothesesIn file) (listIn file) [] rows)
-
--- .. and it begins with every such row.
-pub kept-is-longest : (file journal : List ℕ) (used : ℕ) (row : List Record) → GoodRow (hypothesesIn file) (listIn file) [] row
-    → map decoded (take (length row) (wholeRecords (used / recordBytes) journal)) ≡ map some row
-    → take (length row) (keptIn file journal used) ≡ row
-unfolding keptOf
-kept-is-longest file journal used row good spelled =
-    kept-longest (hypothesesIn file) (listIn file) [] row (wholeRecords (used / recordBytes) journal) good spelled
-
--- "Missing is the number of derivable formulas on the list that the kept part does not record": there is one such number, by
--- `adds` no other.
+-- "Missing is the number of derivable formulas on the list that the kept part does not record": there is one such number, ..
 pub some-number-is-missing : (file journal : List ℕ) (used : ℕ)
     → (m : ℕ) × Missing (hypothesesIn file) (keptIn file journal used) 0 (listIn file) m
 some-number-is-missing file journal used =
     missing-exists (hypothesesIn file) (listIn file) (list-of file) (keptIn file journal used)
+
+-- .. and no other.
+pub no-other-is-missing : (file journal : List ℕ) (used m n : ℕ)
+    → Missing (hypothesesIn file) (keptIn file journal used) 0 (listIn file) m
+    → Missing (hypothesesIn file) (keptIn file journal used) 0 (listIn file) n → m ≡ n
+no-other-is-missing file journal used m n one other =
+    missing-once (hypothesesIn file) (listIn file) (list-of file) (keptIn file journal used) m n one other
 
 -- "The next record, if any: among all good records choose the least formula number, then the least rule, first premise and
 -- second premise."
@@ -317,19 +385,20 @@ pub never-more-than-the-list : (file : List ℕ) (row : List Record) → GoodRow
 never-more-than-the-list file row good = row-short (hypothesesIn file) (listIn file) row good
 
 -- "If that content is what cuts at any bytes left of a run begun on an empty journal for the same file, each cut leaving the
--- first so many bytes, the finished journal equals the uncut one, run until it too is finished, byte for byte." For every
--- history of runs with any limits and of cuts, in any order and number.
-pub cut-as-uncut : (file journal : List ℕ) (used limit : ℕ) (answers journal₀ : List ℕ) (limit₀ : ℕ) (answers₀ : List ℕ)
-    → Reached file journal used
+-- first so many bytes, the finished journal equals the uncut one, run until it too is finished, byte for byte." For every two
+-- histories of runs with any limits and of cuts, in any order and number, also none; the uncut one is a history of runs alone.
+pub cut-as-uncut : (file journal : List ℕ) (used limit : ℕ) (answers journal₀ : List ℕ) (used₀ limit₀ : ℕ) (answers₀ : List ℕ)
+    → Reached file journal used → Reached file journal₀ used₀
     → run file journal used limit answers .report .code ≡ 0 → run file journal used limit answers .report .finished ≡ true
-    → run file journal₀ 0 limit₀ answers₀ .report .code ≡ 0 → run file journal₀ 0 limit₀ answers₀ .report .finished ≡ true
-    → (run file journal used limit answers .report .used ≡ run file journal₀ 0 limit₀ answers₀ .report .used)
+    → run file journal₀ used₀ limit₀ answers₀ .report .code ≡ 0 → run file journal₀ used₀ limit₀ answers₀ .report .finished ≡ true
+    → (run file journal used limit answers .report .used ≡ run file journal₀ used₀ limit₀ answers₀ .report .used)
     × (take (run file journal used limit answers .report .used) (run file journal used limit answers .journal)
-    ≡ take (run file journal₀ 0 limit₀ answers₀ .report .used) (run file journal₀ 0 limit₀ answers₀ .journal))
-cut-as-uncut file journal used limit answers journal₀ limit₀ answers₀ reached code finished code₀ finished₀ =
-    cut-uncut file journal used limit answers journal₀ limit₀ answers₀
-    (code5-passed (entriesOf file) (accepted-code5 file (code-accepted file journal used limit answers code)))
-    reached code finished code₀ finished₀
+    ≡ take (run file journal₀ used₀ limit₀ answers₀ .report .used) (run file journal₀ used₀ limit₀ answers₀ .journal))
+cut-as-uncut file journal used limit answers journal₀ used₀ limit₀ answers₀ reached reached₀ code finished code₀ finished₀ =
+    let short = list-short file journal used limit answers code in
+    ended-same (hypothesesIn file) (listIn file) (run file journal used limit answers) (run file journal₀ used₀ limit₀ answers₀)
+    (run-ended file short journal used limit answers (reached-standing file short journal used reached) code)
+    (run-ended file short journal₀ used₀ limit₀ answers₀ (reached-standing file short journal₀ used₀ reached₀) code₀) finished finished₀
 
 -- "Two formulas are equal exactly when they are spelled alike."
 pub equal-exactly : (x y : Formula) → isNamed x ≡ true → isNamed y ≡ true → (x ≡ y) ↔ (spelling x ≡ spelling y)

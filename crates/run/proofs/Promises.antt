@@ -1,20 +1,23 @@
 -- The demands of the person who asked, for the function `run` itself: whatever report and buffers it leaves, given only its
 -- contract. Each stands under its plain sentence; the theorems about the definitions are in `infon`.
 -- Assumes nothing.
-use Prim.Native.Nat.{ℕ, _≤_, _<_, min}
+use Prim.Native.Nat.{ℕ, _*_, _/_, _≤_, _<_, min}
 use mathlib.Core.Path.{_≡_, sym, _∙_, ap, subst}
 use mathlib.Core.Logic.{_↔_}
 use mathlib.Core.Bool.{true, false}
-use mathlib.Core.List.{List}
+use mathlib.Core.Option.{some}
+use mathlib.Core.List.{List, [], _∷_, _++_, map}
 use lib.ListN.{length, take, getD}
+use Rattle.infon.specs.declared.Record.{Record}
 use Rattle.infon.specs.declared.Report.{Report}
 use Rattle.infon.specs.Calculus.{Derives}
 use Rattle.infon.specs.Rules.{numbered}
-use Rattle.infon.specs.Journal.{isRecorded, spelledAll}
+use Rattle.infon.specs.Journal.{isRecorded, recordBytes, spelledAll, decoded, wholeRecords}
 use Rattle.infon.specs.Run.{isOnRecord, Missing, Outcome, refusal, run}
 use Rattle.infon.proofs.Codec.{AreBytes}
-use Rattle.infon.proofs.Cuts.{Reached}
-use Rattle.infon.proofs.Refusals.{Rule, refusal-given, refusal-only}
+use Rattle.infon.proofs.Grown.{GoodRow}
+use Rattle.infon.proofs.Cuts.{Reached, ran as goes-on}
+use Rattle.infon.proofs.Refusals.{Rule, refusal-given, refusal-only, accepted-exactly}
 use Rattle.infon.proofs.Demands as Demands
 use Rattle.infon.proofs.Demands.{hypothesesIn, queriesIn, queryAt, listIn, keptIn, leftIn}
 use Rattle.run.specs.Prepared.{left}
@@ -67,6 +70,12 @@ module _ (file journal : List ℕ) (used limit : ℕ) (answers : List ℕ) (repo
       × ((c p : ℕ) → c < o .report .code → Rule file journal used limit answers c p → ⊥))
       (refusal-only file journal used limit answers (to-outcome (λ (o : Outcome). 1 ≤ o .report .code) h))
 
+  -- A call is not refused exactly where no rule says so.
+  pub accepted-where-none-does : (report .code ≡ 0) ↔ ((c p : ℕ) → Rule file journal used limit answers c p → ⊥)
+  accepted-where-none-does =
+      of-outcome (λ (o : Outcome). (o .report .code ≡ 0) ↔ ((c p : ℕ) → Rule file journal used limit answers c p → ⊥))
+      (accepted-exactly file journal used limit answers)
+
   -- ---- Demand 2
 
   -- "Once the journal is finished, a query is yes exactly if some derivation .. reaches it from the hypotheses .."
@@ -97,6 +106,16 @@ module _ (file journal : List ℕ) (used limit : ℕ) (answers : List ℕ) (repo
       of-outcome (λ (o : Outcome). take (o .report .used) (o .journal) ≡ spelledAll (leftIn file journal used limit))
       (Demands.leaves file journal used limit answers (accepted code) bytes)
 
+  -- Whoever reads these bytes back keeps exactly those records, whatever stands behind them.
+  pub reads-back : AreBytes journal → report .code ≡ 0 → (after : List ℕ) → take (report .used) after ≡ take (report .used) journalAfter
+      → keptIn file after (report .used) ≡ leftIn file journal used limit
+  reads-back bytes code =
+      of-outcome
+      (λ (o : Outcome).
+      (after : List ℕ) → take (o .report .used) after ≡ take (o .report .used) (o .journal)
+      → keptIn file after (o .report .used) ≡ leftIn file journal used limit)
+      (Demands.read-back file journal used limit answers (accepted code) bytes)
+
   -- ".. the rest is open."
   pub rest-is-open : report .code ≡ 0 → report .finished ≡ false → (i : ℕ) → i < length (queriesIn file)
       → isOnRecord (listIn file) (leftIn file journal used limit) (queryAt file i) ≡ false → getD answersAfter i 0 ≡ 2
@@ -113,11 +132,34 @@ module _ (file journal : List ℕ) (used limit : ℕ) (answers : List ℕ) (repo
   adds-the-smaller code m h =
       of-outcome (λ (o : Outcome). o .report .added ≡ min limit m) (Demands.adds file journal used limit answers (accepted code) m h)
 
-  -- "The longest beginning in which every record is good .. is kept" (`kept-is-longest` of infon says that it is the longest)
-  pub keeps-the-longest : report .code ≡ 0 → report .kept ≡ length (keptIn file journal used)
+  -- "whether the journal is finished": it is exactly if the limit allows as many records as are missing.
+  pub finished-exactly-if-enough : report .code ≡ 0 → (m : ℕ)
+      → Missing (hypothesesIn file) (keptIn file journal used) 0 (listIn file) m → (report .finished ≡ true) ↔ (m ≤ limit)
+  finished-exactly-if-enough code m h =
+      of-outcome (λ (o : Outcome). (o .report .finished ≡ true) ↔ (m ≤ limit))
+      (Demands.finished-exactly file journal used limit answers (accepted code) m h)
+
+  -- "The longest beginning in which every record is good, its formula new and following from the file and earlier records, is
+  -- kept": the report counts these records, and their bytes stay; they are what whole records at the journal's start, inside the
+  -- used length, spell; each is good after those before it; and they begin with every other such row.
+  pub keeps-the-longest : report .code ≡ 0
+      → (report .kept ≡ length (keptIn file journal used))
+      × ((take (recordBytes * report .kept) journalAfter ≡ take (recordBytes * report .kept) journal)
+      × ((map decoded (take (report .kept) (wholeRecords (used / recordBytes) journal)) ≡ map some (keptIn file journal used))
+      × (GoodRow (hypothesesIn file) (listIn file) [] (keptIn file journal used)
+      × ((row : List Record) → GoodRow (hypothesesIn file) (listIn file) [] row
+      → map decoded (take (length row) (wholeRecords (used / recordBytes) journal)) ≡ map some row
+      → take (length row) (keptIn file journal used) ≡ row))))
   keeps-the-longest code =
-      of-outcome (λ (o : Outcome). o .report .kept ≡ length (keptIn file journal used))
-      (Demands.keeps file journal used limit answers (accepted code))
+      let such-a-row = Demands.kept-is-such-a-row file journal used in
+      let count : report .kept ≡ length (keptIn file journal used) =
+      of-outcome (λ (o : Outcome). o .report .kept ≡ length (keptIn file journal used)) (Demands.keeps file journal used limit answers (accepted code)) in
+      let stay =
+      of-outcome
+      (λ (o : Outcome).
+      take (recordBytes * length (keptIn file journal used)) (o .journal) ≡ take (recordBytes * length (keptIn file journal used)) journal)
+      (Demands.kept-stay file journal used limit answers (accepted code)) in
+      (count, (rw count stay, (rw count (such-a-row .1), (such-a-row .0, Demands.kept-is-longest file journal used))))
 
   -- "the finished journal then records exactly the derivable formulas of the file's list, .."
   pub records-exactly-the-derivable : report .code ≡ 0 → report .finished ≡ true → (n : ℕ) → n < length (listIn file)
@@ -125,15 +167,27 @@ module _ (file journal : List ℕ) (used limit : ℕ) (answers : List ℕ) (repo
   records-exactly-the-derivable code ended n low =
       Demands.records-exactly file journal used limit answers (accepted code) (finished ended) n low
 
+  -- ".. each once": none of the records that the journal holds is for a formula that an earlier one is for.
+  pub records-each-once : (before after : List Record) (r : Record) → leftIn file journal used limit ≡ before ++ (r ∷ after)
+      → isRecorded (r .formula) before ≡ false
+  records-each-once = Demands.each-once file journal used limit
+
+  -- A history of runs and of cuts, in any order and number, begun on an empty journal: a call of `run` goes on with it.
+  pub reached-by-running : Reached file journal used → Reached file journalAfter (report .used)
+  reached-by-running reached =
+      of-outcome (λ (o : Outcome). Reached file (o .journal) (o .report .used)) (goes-on journal used limit answers reached)
+
   -- "If that content is what cuts at any bytes left of a run begun on an empty journal for the same file .., the finished journal
-  -- equals the uncut one, run until it too is finished, byte for byte."
-  pub ends-as-the-uncut : (journal₀ : List ℕ) (limit₀ : ℕ) (answers₀ : List ℕ) (report₀ : Report) (after₀ answersAfter₀ : List ℕ)
-      → Ran file journal₀ 0 limit₀ answers₀ report₀ after₀ answersAfter₀ → Reached file journal used
+  -- equals the uncut one, run until it too is finished, byte for byte", whatever runs with whatever limits led to either.
+  pub ends-as-the-uncut : (journal₀ : List ℕ) (used₀ limit₀ : ℕ) (answers₀ : List ℕ) (report₀ : Report) (after₀ answersAfter₀ : List ℕ)
+      → Ran file journal₀ used₀ limit₀ answers₀ report₀ after₀ answersAfter₀ → Reached file journal used → Reached file journal₀ used₀
       → report .code ≡ 0 → report .finished ≡ true → report₀ .code ≡ 0 → report₀ .finished ≡ true
-      → take (report .used) journalAfter ≡ take (report₀ .used) after₀
-  ends-as-the-uncut journal₀ limit₀ answers₀ report₀ after₀ answersAfter₀ ran₀ reached code ended code₀ ended₀ =
+      → (report .used ≡ report₀ .used) × (take (report .used) journalAfter ≡ take (report₀ .used) after₀)
+  ends-as-the-uncut journal₀ used₀ limit₀ answers₀ report₀ after₀ answersAfter₀ ran₀ reached reached₀ code ended code₀ ended₀ =
       let same =
-      Demands.cut-as-uncut file journal used limit answers journal₀ limit₀ answers₀ reached (accepted code) (finished ended)
-      (subst (λ (o : Outcome). o .report .code ≡ 0) ran₀ code₀) (subst (λ (o : Outcome). o .report .finished ≡ true) ran₀ ended₀) in
-      ap (λ (o : Outcome). take (o .report .used) (o .journal)) ran
-      ∙ (same .1 ∙ sym (ap (λ (o : Outcome). take (o .report .used) (o .journal)) ran₀))
+      Demands.cut-as-uncut file journal used limit answers journal₀ used₀ limit₀ answers₀ reached reached₀ (accepted code) (finished ended)
+      (subst (λ (o : Outcome). o .report .code ≡ 0) ran₀ code₀) (subst (λ (o : Outcome). o .report .finished ≡ true) ran₀ ended₀) in (
+        ap (λ (o : Outcome). o .report .used) ran ∙ (same .0 ∙ sym (ap (λ (o : Outcome). o .report .used) ran₀)),
+        ap (λ (o : Outcome). take (o .report .used) (o .journal)) ran
+            ∙ (same .1 ∙ sym (ap (λ (o : Outcome). take (o .report .used) (o .journal)) ran₀)),
+      )
