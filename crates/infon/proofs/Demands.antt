@@ -32,7 +32,8 @@ use Rattle.infon.proofs.Ascending.{first-least}
 use Rattle.infon.proofs.Least.{Before, all-ascend, all-has}
 use Rattle.infon.proofs.Grown.{GoodRow, good-fresh, kept-decoded, kept-longest, kept-spelled, kept-of-spelled, kept-good, grown-good, good-append}
 use Rattle.infon.proofs.Cuts.{Reached, take-before-written, run-ended, reached-standing, ended-same, success-spells, run-cases, code-accepted, accepted-code5}
-use Rattle.infon.proofs.Refusals.{when-false, used-too-long, no-room, accepted-exactly}
+use Rattle.infon.proofs.Tried.{when-false}
+use Rattle.infon.proofs.Refusals.{used-too-long, no-room, accepted-exactly}
 use Rattle.infon.proofs.Sound.{Sound, good-is, premises-below, premise-derived, sound-row, sound-empty}
 use Rattle.infon.proofs.Finished.{List-of, derivable-answered, answered-derivable, derivable-recorded-number}
 use Rattle.infon.proofs.Missing.{row-short, grown-all, missing-exists, missing-once, adds-smaller, finishes-exactly}

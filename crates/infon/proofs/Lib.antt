@@ -17,5 +17,6 @@ pub mod Cuts
 pub mod Sound
 pub mod Finished
 pub mod Missing
+pub mod Tried
 pub mod Refusals
 pub mod Demands

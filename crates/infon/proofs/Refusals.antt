@@ -1,15 +1,14 @@
 -- Demand 1, the codes: each is given exactly when its rule says and no earlier one's does, with the place that the table names.
 -- Assumes nothing.
 use Prim.Native.Nat.{ℕ, zero, suc, _+_, _*_, _≤_, _<_}
-use native.Mathlib.Nat.{le-trans, eq-or-lt-of-le}
 use native.Mathlib.Omega.{arith}
 use mathlib.Core.Path.{_≡_, refl, sym, _∙_, ap, subst, subst₂}
 use mathlib.Core.Logic.{_⊎_, inl, inr, ⊎-elim, _↔_}
-use mathlib.Core.Bool.{Bool, true, false, not, false≢true, true≢false}
-use mathlib.Core.List.{List, [], _∷_, _++_, append-assoc}
+use mathlib.Core.Bool.{Bool, true, false, not}
+use mathlib.Core.List.{List, [], _∷_, _++_}
 use lib.ListN.{length, length-append}
 use lib.Dec.{ltb}
-use borrow.Author.Tests.{ltb-true, ltb-false, lt-ltb, le-ltb, not-true, not-false}
+use borrow.Author.Tests.{ltb-true, lt-ltb}
 use Rattle.infon.specs.declared.Record.{Record}
 use Rattle.infon.specs.Bytes.{every}
 use Rattle.infon.specs.Formula.{Formula, nodes, depth}
@@ -17,9 +16,9 @@ use Rattle.infon.specs.Policy.{Line, linesOf, isWellFormed, Entry, entri
 use Rattle.infon.specs.Listing.{weakenedBases, enlist, listFrom, listOf, mostListed, code5From, code5}
 use Rattle.infon.specs.Journal.{recordBytes, keptOf, grown}
 use Rattle.infon.specs.Run.{fileVerdict, code6, code7, code8, code9, Outcome, refusal, success, settled, run}
-use Rattle.infon.proofs.Rows.{true-and, and-true, decided}
-use Rattle.infon.proofs.Cuts.{andThen-passed}
-use Rattle.infon.proofs.Listed.{Begins, enlist-begins, listFrom-append}
+use Rattle.infon.proofs.Rows.{decided}
+use Rattle.infon.proofs.Listed.{enlist-begins, listFrom-append}
+use Rattle.infon.proofs.Tried.{when-true, when-false, passed-or-refused, refused-same, andThen-assoc, andThen-end, scanned, scanned-first, first-scanned, gone, counted, counted-over, over-counted, firstFrom, none-given, first-given}
 
 -- the nodes of the lines so far
 unfoldable pub nodesIn : List Entry → ℕ
@@ -53,198 +52,7 @@ pub data Rule (file journal : List ℕ) (used limit : ℕ) (answers : List ℕ) 
       (keptOf (hypothesesOf (entriesOf file)) (listOf (entriesOf file)) journal used) limit))
       → Rule file journal used limit answers 9 0
 
--- ---- What a verdict does
-
-when-true : (b : Bool) (code place : ℕ) → b ≡ true → when b code place ≡ refused code place
-unfolding when
-when-true b code place h = rw h
-
-pub when-false : (b : Bool) (code place : ℕ) → b ≡ false → when b code place ≡ passed
-unfolding when
-when-false b code place h = rw h
-
-passed-refused : {code place : ℕ} → passed ≡ refused code place → ⊥
-passed-refused e = let z : _≡_ {A = ℕ} 0 1 = cc in omega arith
-
-passed-or-refused : (v : Verdict) → (v ≡ passed) ⊎ ((code : ℕ) × ((place : ℕ) × (v ≡ refused code place)))
-passed-or-refused passed = inl refl
-passed-or-refused (refused code place) = inr (code, (place, refl))
-
-neither-less : (m n : ℕ) → (m < n → ⊥) → (n < m → ⊥) → m ≡ n
-neither-less m n a b = omega arith
-
-refused-same : {c p d q : ℕ} → refused c p ≡ refused d q → (c ≡ d) × (p ≡ q)
-refused-same e = (cc, cc)
-
-pass-on : {v : Verdict} → v ≡ passed → (later : Verdict) → andThen v later ≡ later
-unfolding andThen
-pass-on h later = rw h
-
-stop-at : {v : Verdict} {code place : ℕ} → v ≡ refused code place → (later : Verdict) → andThen v later ≡ refused code place
-unfolding andThen
-stop-at h later = rw h
-
-andThen-assoc : (u v w : Verdict) → andThen (andThen u v) w ≡ andThen u (andThen v w)
-unfolding andThen
-andThen-assoc passed v w = refl
-andThen-assoc (refused code place) v w = refl
-
-andThen-end : (v : Verdict) → andThen v passed ≡ v
-unfolding andThen
-andThen-end passed = refl
-andThen-end (refused code place) = refl
-
--- a bad element in front ends the search, any other is passed over
-stops : (b : Bool) (code place : ℕ) (later : Verdict) → b ≡ true → andThen (when b code place) later ≡ refused code place
-unfolding andThen when
-stops b code place later h = rw h
-
-goes-on : (b : Bool) (code place : ℕ) (later : Verdict) → b ≡ false → andThen (when b code place) later ≡ later
-unfolding andThen when
-goes-on b code place later h = rw h
-
--- ---- The first element of a row that is bad by itself
-
-module _ {E : Type 0} (good : E → Bool) (code : ℕ) (place : E → ℕ) where
-  scanned : List E → Verdict
-  scanned [] = passed
-  scanned (e ∷ rest) = andThen (when (not (good e)) code (place e)) (scanned rest)
-
-  record FirstBad (xs : List E) (at : ℕ) : Type 0 where
-    before : List E
-    bad : E
-    behind : List E
-    row : xs ≡ before ++ (bad ∷ behind)
-    all-good : every good before ≡ true
-    is-bad : good bad ≡ false
-    here : at ≡ place bad
-
-  scanned-first : (before : List E) (e : E) (behind : List E) → every good before ≡ true → good e ≡ false
-      → scanned (before ++ (e ∷ behind)) ≡ refused code (place e)
-  unfolding scanned every
-  scanned-first [] e behind calm bad = stops (not (good e)) code (place e) (scanned behind) (ap not bad)
-  scanned-first (x ∷ before) e behind calm bad =
-      let parts = and-true (good x) (every good before) calm in
-      goes-on (not (good x)) code (place x) (scanned (before ++ (e ∷ behind))) (ap not (parts .0))
-      ∙ scanned-first before e behind (parts .1) bad
-
-  first-scanned : (xs : List E) → (scanned xs ≡ passed) ⊎ ((at : ℕ) × ((scanned xs ≡ refused code at) × FirstBad xs at))
-  unfolding scanned every
-  first-scanned [] = inl refl
-  first-scanned (x ∷ xs) =
-      ⊎-elim
-      (λ (fine : good x ≡ true).
-      let over = goes-on (not (good x)) code (place x) (scanned xs) (ap not fine) in
-      ⊎-elim (λ p. inl (over ∙ p))
-      (λ found.
-      let f = found .1 .1 in
-      inr (
-        found .0,
-        (
-          over ∙ found .1 .0,
-          record {
-            before = x ∷ f .before;
-            bad = f .bad;
-            behind = f .behind;
-            row = ap (λ (ys : List E). x ∷ ys) (f .row);
-            all-good = true-and fine (f .all-good);
-            is-bad = f .is-bad;
-            here = f .here;
-          },
-        ),
-      ))
-      (first-scanned xs))
-      (λ (bad : good x ≡ false).
-      inr (
-        place x,
-        (
-          stops (not (good x)) code (place x) (scanned xs) (ap not bad),
-          record { before = []; bad = x; behind = xs; row = refl; all-good = refl; is-bad = bad; here = refl },
-        ),
-      ))
-      (decided (good x))
-
--- ---- The first element of a row at which a growing number passes its limit
-
-module _ {S E : Type 0} (step : S → E → S) (size : S → ℕ) (grows : (s : S) (e : E) → size s ≤ size (step s e)) (most code : ℕ) (place : E → ℕ) where
-  gone : S → List E → S
-  gone s [] = s
-  gone s (e ∷ rest) = gone (step s e) rest
-
-  gone-grows : (s : S) (xs : List E) → size s ≤ size (gone s xs)
-  unfolding gone
-  gone-grows s [] = omega arith
-  gone-grows s (e ∷ rest) = le-trans (grows s e) (gone-grows (step s e) rest)
-
-  counted : S → List E → Verdict
-  counted s [] = passed
-  counted s (e ∷ rest) = andThen (when (ltb most (size (step s e))) code (place e)) (counted (step s e) rest)
-
-  record FirstOver (s : S) (xs : List E) (at : ℕ) : Type 0 where
-    before : List E
-    last : E
-    behind : List E
-    row : xs ≡ before ++ (last ∷ behind)
-    within : size (gone s before) ≤ most
-    over : most < size (step (gone s before) last)
-    here : at ≡ place last
-
-  counted-over : (s : S) (before : List E) (e : E) (behind : List E) → size (gone s before) ≤ most
-      → most < size (step (gone s before) e) → counted s (before ++ (e ∷ behind)) ≡ refused code (place e)
-  unfolding counted gone
-  counted-over s [] e behind within over =
-      stops (ltb most (size (step s e))) code (place e) (counted (step s e) behind) (lt-ltb most (size (step s e)) over)
-  counted-over s (x ∷ before) e behind within over =
-      goes-on (ltb most (size (step s x))) code (place x) (counted (step s x) (before ++ (e ∷ behind)))
-      (le-ltb most (size (step s x)) (le-trans (gone-grows (step s x) before) within))
-      ∙ counted-over (step s x) before e behind within over
-
-  over-counted : (s : S) (xs : List E) → size s ≤ most
-      → (counted s xs ≡ passed) ⊎ ((at : ℕ) × ((counted s xs ≡ refused code at) × FirstOver s xs at))
-  unfolding counted gone
-  over-counted s [] within = inl refl
-  over-counted s (x ∷ xs) within =
-      ⊎-elim
-      (λ (over : ltb most (size (step s x)) ≡ true).
-      inr (
-        place x,
-        (
-          stops (ltb most (size (step s x))) code (place x) (counted (step s x) xs) over,
-          record {
-            before = [];
-            last = x;
-            behind = xs;
-            row = refl;
-            within = within;
-            over = ltb-true most (size (step s x)) over;
-            here = refl;
-          },
-        ),
-      ))
-      (λ (fits : ltb most (size (step s x)) ≡ false).
-      let past = goes-on (ltb most (size (step s x))) code (place x) (counted (step s x) xs) fits in
-      ⊎-elim (λ p. inl (past ∙ p))
-      (λ found.
-      let f = found .1 .1 in
-      inr (
-        found .0,
-        (
-          past ∙ found .1 .0,
-          record {
-            before = x ∷ f .before;
-            last = f .last;
-            behind = f .behind;
-            row = ap (λ (ys : List E). x ∷ ys) (f .row);
-            within = f .within;
-            over = f .over;
-            here = f .here;
-          },
-        ),
-      ))
-      (over-counted (step s x) xs (ltb-false most (size (step s x)) fits)))
-      (decided (ltb most (size (step s x))))
-
--- ---- The verdicts of the codes, as such searches
+-- ---- The verdicts of the codes, as searches through a row
 
 code2-scanned : (lines : List Line) → code2From lines ≡ scanned isWellFormed 2 (λ (l : Line). l .start) lines
 unfolding code2From scanned
@@ -386,56 +194,10 @@ over-code5 entries =
     ))
     (over-counted addBases length addBases-grows mostListed 5 (λ (f : Entry). f .start) [] entries (omega arith))
 
--- ---- The first of several verdicts
-
-module _ (each : ℕ → Verdict) (Given : ℕ → ℕ → Type 0) (only : (code place : ℕ) → Given code place → each code ≡ refused code place)
-    (either : (code : ℕ) → (each code ≡ passed) ⊎ ((place : ℕ) × ((each code ≡ refused code place) × Given code place))) where
-  firstFrom : ℕ → ℕ → Verdict
-  firstFrom code zero = passed
-  firstFrom code (suc k) = andThen (each code) (firstFrom (suc code) k)
-
-  passed-none : (code place : ℕ) → each code ≡ passed → Given code place → ⊥
-  passed-none code place pass given = passed-refused (sym pass ∙ only code place given)
-
-  none-given : (code k : ℕ) → firstFrom code k ≡ passed → (c p : ℕ) → code ≤ c → c < code + k → Given c p → ⊥
-  unfolding firstFrom
-  none-given code zero h c p low high given = omega arith
-  none-given code (suc k) h c p low high given =
-      let parts = andThen-passed (each code) (firstFrom (suc code) k) h in
-      ⊎-elim
-      (λ (e : code ≡ c). passed-none code p (parts .0) (subst (λ (d : ℕ). Given d p) (sym e) given))
-      (λ (l : code < c). none-given (suc code) k (parts .1) c p l (omega arith) given)
-      (eq-or-lt-of-le low)
-
-  first-given : (code k c p : ℕ) → firstFrom code k ≡ refused c p
-      → (code ≤ c) × (Given c p × ((d q : ℕ) → code ≤ d → d < c → Given d q → ⊥))
-  unfolding firstFrom
-  first-given code zero c p h = absurd (passed-refused h)
-  first-given code (suc k) c p h =
-      ⊎-elim
-      (λ (pass : each code ≡ passed).
-      let later = first-given (suc code) k c p (sym (pass-on pass (firstFrom (suc code) k)) ∙ h) in (
-        let low = later .0 in omega arith,
-        (
-          later .1 .0,
-          λ d q low high given.
-              ⊎-elim
-              (λ (e : code ≡ d). passed-none code q pass (subst (λ (n : ℕ). Given n q) (sym e) given))
-              (λ (l : code < d). later .1 .1 d q l high given)
-              (eq-or-lt-of-le low),
-        ),
-      ))
-      (λ found.
-      let same = refused-same (sym (stop-at (found .1 .0) (firstFrom (suc code) k)) ∙ h) in (
-        let e = same .0 in omega arith,
-        (
-          subst₂ Given (same .0) (same .1) (found .1 .1),
-          λ d q low high given. let e = same .0 in absurd (omega arith),
-        ),
-      ))
-      (either code)
-
 -- ---- The codes of a call
+
+neither-less : (m n : ℕ) → (m < n → ⊥) → (n < m → ⊥) → m ≡ n
+neither-less m n a b = omega arith
 
 module _ (file journal : List ℕ) (used limit : ℕ) (answers : List ℕ) where
   kept : List Record
