@@ -48,10 +48,10 @@ returns c =
     sym (depths-apart _ _ (s .pre .0) (s .args .i) (s .args .j) (s .pre .1 .0) (s .pre .1 .1) (c .if1 .taken))
 
 text-of-requires : tie.Need-text-of-requires
-text-of-requires c κs = let s = c .before .before .before .before .before in (s .pre .0, s .pre .1 .0)
+text-of-requires c κs = search needs
 
 text-of-requires-2 : tie.Need-text-of-requires-2
-text-of-requires-2 c κs = let s = c .before .before .before .before .before .before in (s .pre .0, s .pre .1 .1)
+text-of-requires-2 c κs = search needs
 
 are-alike-requires : tie.Need-are-alike-requires
 are-alike-requires c κs = search needs
