@@ -1,5 +1,4 @@
--- Completeness and counts: a finished journal records exactly the derivable formulas of the list, and a run adds as many records
--- as its limit allows or as are missing, the smaller.
+-- Completeness: a finished journal records exactly the derivable formulas of the list.
 -- Assumes nothing.
 use Prim.Native.Nat.{ℕ, zero, suc, _+_, _≤_, _<_, min}
 use native.Mathlib.Nat.{zero-min, suc-min-suc, min-zero}

@@ -1,32 +1,27 @@
--- The least way to a formula, rule by rule, and the scan for the next record. The next record over table and marks is the paper's.
+-- The least way to a formula, rule by rule.
 -- Assumes nothing.
-use Prim.Native.Nat.{ℕ, zero, suc, _+_, _-_, _≤_, _<_}
-use mathlib.Core.Path.{_≡_, refl, sym, _∙_, ap, subst}
+use Prim.Native.Nat.{ℕ, _+_, _-_, _≤_, _<_}
+use mathlib.Core.Path.{_≡_, refl, sym, _∙_, ap}
 use mathlib.Core.Bool.{Bool, true, false, _&&_, not}
 use mathlib.Core.Option.{Option, none, some}
-use mathlib.Core.List.{List, [], _∷_, _++_, map}
-use native.Mathlib.Numerals.{add-one}
+use mathlib.Core.List.{List, _∷_, _++_, map}
 use native.Mathlib.Omega.{arith}
-use lib.ListN.{length}
 use lib.Dec.{ltb, eqb}
 use borrow.Author.Tests.{eq-eqb, ne-eqb, lt-ltb}
 use Rattle.infon.specs.declared.Way.{Way}
 use Rattle.infon.specs.declared.Way.the-variants.{Hypothesis, Given, Weaken, Left, Right, Both, Apply, Attach}
-use Rattle.infon.specs.declared.Record.{Record}
-use Rattle.infon.specs.Formula.{Formula}
 use Rattle.infon.specs.Bytes.{firstOf}
-use Rattle.infon.specs.Journal.{isGood, numbersFrom, allWays, recordsFor, allRecords, next}
+use Rattle.infon.specs.Journal.{numbersFrom, allWays}
 use Rattle.table.specs.Table.{cell}
-use Rattle.table.specs.Tests.{givesIn, isMarked, premisesMarked, leadsTo, goodIn, Held}
-use Rattle.table.proofs.Given.{good-in}
+use Rattle.table.specs.Tests.{givesIn, isMarked, premisesMarked, leadsTo, goodIn}
 use Rattle.ways.specs.declared.Least.{Least}
 use Rattle.ways.specs.declared.Least.the-variants.{By, Missing}
-use Rattle.ways.specs.Search.{leastBelow, leastPremise, isWhole, leastWhole, leastOf, leastAmong, pairsOf, lastWays, leastWayIn, dueWayIn, nextIn}
-use Rattle.ways.proofs.Firsts.{passes, fails, nothing, all-fail, alike-first, append-found, append-none, map-found, map-none, least-first, least-none}
-use Rattle.ways.proofs.Pairs.{found-among, none-among}
+use Rattle.ways.specs.Search.{leastPremise, isWhole, leastWhole, leastOf, leastAmong, pairsOf, lastWays, leastWayIn, dueWayIn}
+use Rattle.ways.proofs.Firsts.{passes, fails, all-fail, alike-first, append-found, append-none, map-found, map-none, least-first, least-none}
+use Rattle.ways.proofs.Pairs.{found-among}
 
 -- what an answer says of the search behind it
-answer-by : (o : Option Way) {r : Least} {way : Way} → r ≡ leastOf o → r ≡ By way → o ≡ some way
+pub answer-by : (o : Option Way) {r : Least} {way : Way} → r ≡ leastOf o → r ≡ By way → o ≡ some way
 unfolding leastOf
 answer-by none e h = absurd (let z : _≡_ {A = ℕ} 0 1 = cc in omega arith)
 answer-by (some found) {r} {way} e h = let same : found ≡ way = cc in ap (λ (w : Way). some w) same
@@ -201,55 +196,3 @@ module _ (t : List ℕ) (n : ℕ) (marks : List ℕ) (f : ℕ) where
       (sym
       (alike-first (λ (way : Way). goodIn t n marks (record { formula = f; way = way })) (leadsTo t n marks f)
       (allWays (numbersFrom 0 n)) (λ way. good-unmarked way inside unmarked)))
-
--- the scan: the records for the numbers from f on
-unfoldable pub nextFrom : List ℕ → ℕ → List ℕ → ℕ → Option Record
-nextFrom t n marks f = firstOf (goodIn t n marks) (recordsFor (allWays (numbersFrom 0 n)) (numbersFrom f (n - f)))
-
-module _ (t : List ℕ) (n : ℕ) (marks : List ℕ) where
-  pub scan-begins : nextIn t n marks ≡ nextFrom t n marks 0
-  unfolding nextIn nextFrom allRecords
-  scan-begins = let e : n - 0 ≡ n = omega arith in rw e
-
-  abbrev block : ℕ → List Record
-  block f = map (λ (way : Way). record { formula = f; way = way }) (allWays (numbersFrom 0 n))
-
-  block-first : (f : ℕ) → f < n
-      → nextFrom t n marks f
-      ≡ firstOf (goodIn t n marks) (block f ++ recordsFor (allWays (numbersFrom 0 n)) (numbersFrom (suc f) (n - suc f)))
-  unfolding nextFrom numbersFrom recordsFor
-  block-first f h = let e : n - f ≡ suc (n - suc f) = omega arith in rw e
-
-  pub scan-found : (f : ℕ) {r : Least} {way : Way} → f < n → r ≡ dueWayIn t n marks f → r ≡ By way
-      → nextFrom t n marks f ≡ some (record { formula = f; way = way })
-  unfolding dueWayIn
-  scan-found f {r} {way} h e due =
-      let ways = allWays (numbersFrom 0 n) in
-      block-first f h
-      ∙ append-found (goodIn t n marks) (block f) (recordsFor ways (numbersFrom (suc f) (n - suc f)))
-      (map-found (goodIn t n marks) (λ (w : Way). record { formula = f; way = w }) ways
-      (answer-by (firstOf (λ (w : Way). goodIn t n marks (record { formula = f; way = w })) ways) e due))
-
-  pub scan-goes-on : (f : ℕ) {r : Least} → f < n → r ≡ dueWayIn t n marks f → r ≡ Missing
-      → nextFrom t n marks f ≡ nextFrom t n marks (f + 1)
-  unfolding dueWayIn nextFrom
-  scan-goes-on f {r} h e missing =
-      let ways = allWays (numbersFrom 0 n) in
-      block-first f h
-      ∙ (append-none (goodIn t n marks) (block f) (recordsFor ways (numbersFrom (suc f) (n - suc f)))
-      (map-none (goodIn t n marks) (λ (w : Way). record { formula = f; way = w }) ways
-      (answer-missing (firstOf (λ (w : Way). goodIn t n marks (record { formula = f; way = w })) ways) e missing))
-      ∙ ap (λ (g : ℕ). firstOf (goodIn t n marks) (recordsFor ways (numbersFrom g (n - g)))) (sym (add-one f)))
-
-  pub scan-over : (f : ℕ) → n ≤ f → nextFrom t n marks f ≡ none
-  unfolding nextFrom numbersFrom recordsFor
-  scan-over f h = let e : n - f ≡ 0 = omega arith in rw e (nothing (goodIn t n marks))
-
--- the next record over a table and marks that hold a list and its records is the paper's
-pub next-in : (hyps fs : List Formula) (done : List Record) (t : List ℕ) (n : ℕ) (marks : List ℕ) → Held hyps fs done t n marks
-    → next hyps fs done ≡ nextIn t n marks
-unfolding next nextIn
-next-in hyps fs done t n marks held =
-    alike-first (isGood hyps fs done) (goodIn t n marks) (allRecords (length fs))
-    (λ r. good-in hyps fs done t n marks r held)
-    ∙ ap (λ (m : ℕ). firstOf (goodIn t n marks) (allRecords m)) (held .count)
