@@ -2,9 +2,9 @@
 //! unwritable disks, system calls that fail, a held lock.
 //!
 //! Where the program is missing these tests fail, and where strace is missing
-//! those that need it. After every call the second program reads the journal
-//! file: each printed yes must be on record there, and the file must be the old
-//! one or the whole new one.
+//! those that need it, unless WITHOUT_STRACE is set. After every call the second
+//! program reads the journal file: each printed yes must be on record there, and
+//! the file must be the old one or the whole new one.
 
 use against::journals::{self, RECORD};
 use against::made_up;
@@ -15,7 +15,8 @@ use second::slow::Policy;
 use std::env;
 use std::fs;
 use std::io::{Read, Write};
-use std::os::unix::fs::PermissionsExt;
+use std::os::unix::fs::{symlink, PermissionsExt};
+use std::os::unix::net::UnixListener;
 use std::os::unix::process::{CommandExt, ExitStatusExt};
 use std::path::{Path, PathBuf};
 use std::process::{Child, Command, Output, Stdio};
@@ -518,12 +519,17 @@ fn the_new_files_place_is_taken() {
     say("a folder in the new file's place: no answer, the journal whole; a link: an answer");
 }
 
-/// Only under strace is the order of the system calls tested, so it must be here.
-fn assert_strace() {
+/// Only under strace is the order of the system calls tested, so it must be here,
+/// unless whoever calls the tests knows that it is not.
+fn has_strace() -> bool {
+    if env::var_os("WITHOUT_STRACE").is_some() {
+        return false;
+    }
     let mut command = Command::new("strace");
     let traced = command.args(["-o", "/dev/null", "true"]).output();
     let runs = traced.is_ok_and(|output| output.status.success());
     assert!(runs, "strace cannot be run: apt-get install strace");
+    true
 }
 
 /// The call with a fault at one system call, and whether the fault came.
@@ -584,7 +590,9 @@ fn fails_and_recovers(old: &[u8], name: &str, fault: &str, count: usize) -> Opti
 #[test]
 #[cfg_attr(not(feature = "proved"), ignore = "needs the proved night program")]
 fn every_system_call_fails_once() {
-    assert_strace();
+    if !has_strace() {
+        return;
+    }
     let uncut = journals::finished(NIGHT.as_bytes());
     let (mut faults, mut kills, mut yes) = (0, 0, 0);
     for old in [&uncut[..31], &uncut] {
@@ -608,7 +616,9 @@ fn every_system_call_fails_once() {
 #[test]
 #[cfg_attr(not(feature = "proved"), ignore = "needs the proved night program")]
 fn fsync_fails() {
-    assert_strace();
+    if !has_strace() {
+        return;
+    }
     let policy = NIGHT.as_bytes();
     let uncut = journals::finished(policy);
     let folder = Folder::with(policy);
@@ -695,6 +705,80 @@ fn the_script_fails_with_status_2() {
         assert!(wrong.starts_with("night: "), "{wrong}");
     }
     say("the script's status 2, three times, each with a message and no answer");
+}
+
+/// The script by another name, with these two files.
+fn script_on(script: &Path, policy: &Path, journal: &Path) -> Command {
+    let mut command = Command::new(script);
+    command.arg(policy).arg(journal);
+    command.env("NIGHT_PROGRAM", program("night"));
+    command
+}
+
+#[test]
+#[cfg_attr(not(feature = "proved"), ignore = "needs the proved night program")]
+fn the_script_says_why_there_can_be_no_journal() {
+    let folder = Folder::cut_night();
+    let socket = folder.0.join("socket");
+    let _listener = UnixListener::bind(&socket).expect("a socket");
+    let place = socket.display();
+    let missing = folder.0.join("none/journal");
+    let lock = missing.with_extension("lock");
+    let rows = [
+        (Path::new(""), "the journal's name is empty".to_string()),
+        (
+            &socket,
+            format!("{place} is not a plain file: no journal can stand there"),
+        ),
+        (
+            &missing,
+            format!("cannot open the lock file {}: ", lock.display()),
+        ),
+    ];
+    for (journal, message) in rows {
+        let mut command = script_on(&root().join("bin/night"), &folder.policy(), journal);
+        let (status, text, wrong) = told(&mut command);
+        assert_eq!((status, text.as_str()), (Some(2), ""));
+        assert!(wrong.starts_with(&format!("night: {message}")), "{wrong}");
+    }
+    say("no journal without a name, in a socket's place or in a missing folder");
+}
+
+#[test]
+#[cfg_attr(not(feature = "proved"), ignore = "needs the proved night program")]
+fn the_script_saves_what_does_not_begin_with_a_record() {
+    let folder = Folder::with(NIGHT.as_bytes());
+    let whole = expected(NIGHT.as_bytes(), &[], MOST);
+    for (count, mistaken) in [&b"H b\nQ b\n"[..], b"\0\0\0", b"L"].iter().enumerate() {
+        folder.set(mistaken);
+        let saved = folder.0.join(format!("journal.saved-{}", count + 1));
+        let message = format!(
+            "night: {} does not begin with a record: its bytes are kept in {}\n",
+            folder.journal().display(),
+            saved.display()
+        );
+        let answered = (Some(0), whole.text.clone(), message);
+        assert_eq!(told(&mut script(&folder, "4096")), answered);
+        assert!(fs::read(saved).expect("a copy") == *mistaken);
+        assert!(folder.kept() == whole.journal);
+    }
+    assert_told(&folder, "4096", 0, &whole.text);
+    assert!(!folder.0.join("journal.saved-4").exists());
+    say("three files that are no journal were saved before they were replaced, a journal was not");
+}
+
+#[test]
+#[cfg_attr(not(feature = "proved"), ignore = "needs the proved night program")]
+fn the_script_finds_the_program_through_a_link() {
+    let folder = Folder::with(NIGHT.as_bytes());
+    let link = folder.0.join("tonight");
+    let place = root().join("bin/night").canonicalize().expect("the script");
+    symlink(place, &link).expect("a link");
+    let mut command = script_on(&link, &folder.policy(), &folder.journal());
+    let (status, text, wrong) = told(command.env_remove("NIGHT_PROGRAM"));
+    assert_eq!((status, wrong.as_str()), (Some(0), ""));
+    assert_eq!(text, expected(NIGHT.as_bytes(), &[], MOST).text);
+    say("the script called through a symbolic link");
 }
 
 /// A process that holds the lock until it is waited for.
