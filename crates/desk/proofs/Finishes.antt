@@ -18,6 +18,7 @@ use Rattle.infon.proofs.Grown.{grown-good, grown-finished, take-grown}
 use Rattle.infon.proofs.Missing.{row-short}
 use Rattle.infon.proofs.Cuts.{run-cases, accepted-code5}
 use Rattle.printing.specs.Printed.{noAnswer}
+use Rattle.settling.specs.Settled.{settledRun}
 use Rattle.desk.specs.Desk.{deskRun}
 
 -- where the list has at most 4,096 formulas, so many records are all that can be added to none
@@ -33,7 +34,7 @@ unfolding keptOf keptAfter wholeRecords recordBytes
 none-kept hyps fs journal = refl
 
 pub finishes : (file : List ℕ) → deskRun file .report .code ≡ 0 → deskRun file .report .finished ≡ true
-unfolding deskRun success refusal
+unfolding deskRun settledRun success refusal
 finishes file =
     run-cases file (replicate 36864 0) 0 4096 (replicate 1024 noAnswer) (λ (o : Outcome). o .report .code ≡ 0 → o .report .finished ≡ true)
     (λ code place least e. absurd (omega arith))

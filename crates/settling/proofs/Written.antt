@@ -1,5 +1,5 @@
--- A printed yes is on record in the bytes that the program writes: whoever reads them back keeps every record that the answers
--- were given from, whatever stands behind those bytes in the buffer.
+-- A printed yes is on record in the journal's used bytes, which the night program writes: whoever reads them back keeps every
+-- record that the answers were given from, whatever stands behind those bytes in the buffer.
 -- Assumes nothing.
 use Prim.Native.Nat.{ℕ, _*_, _/_, _≤_, _<_}
 use native.Mathlib.Nat.{le-refl}
@@ -18,25 +18,25 @@ use Rattle.infon.proofs.Listed.{code5-passed}
 use Rattle.infon.proofs.Grown.{GoodRow, good-append, grown-good, kept-of-spelled}
 use Rattle.infon.proofs.Demands.{hypothesesIn, queriesIn, queryAt, listIn, keptIn, addedIn, leftIn, leaves, yes-recorded-only, kept-is-such-a-row}
 use Rattle.printing.specs.Printed.{noAnswer}
-use Rattle.night.specs.Night.{nightRun}
-use Rattle.night.proofs.Settling.{used-within}
+use Rattle.settling.specs.Settled.{settledRun}
+use Rattle.settling.proofs.Settling.{used-within}
 
 nine-times : (n : ℕ) → recordBytes * n / recordBytes ≡ n
 unfolding recordBytes
 nine-times n = omega arith
 
-module _ (file journal : List ℕ) (used limit : ℕ) (fit : used ≤ length journal) (bytes : AreBytes journal) (accepted : nightRun file journal used limit .report .code ≡ 0) where
+module _ (file journal : List ℕ) (used limit : ℕ) (fit : used ≤ length journal) (bytes : AreBytes journal) (accepted : settledRun file journal used limit .report .code ≡ 0) where
   -- the bytes that are written
   abbrev pub new : List ℕ
-  new = take (nightRun file journal used limit .report .used) (nightRun file journal used limit .journal)
+  new = take (settledRun file journal used limit .report .used) (settledRun file journal used limit .journal)
 
   new-spells : new ≡ spelledAll (leftIn file journal used limit)
-  unfolding nightRun
+  unfolding settledRun
   new-spells = leaves file journal used limit (replicate 1024 noAnswer) accepted bytes
 
-  pub new-length : length new ≡ nightRun file journal used limit .report .used
+  pub new-length : length new ≡ settledRun file journal used limit .report .used
   new-length =
-      length-take-le (nightRun file journal used limit .report .used) (nightRun file journal used limit .journal) (used-within file journal used limit fit)
+      length-take-le (settledRun file journal used limit .report .used) (settledRun file journal used limit .journal) (used-within file journal used limit fit)
 
   new-records : length new / recordBytes ≡ length (leftIn file journal used limit)
   new-records =
@@ -50,7 +50,7 @@ module _ (file journal : List ℕ) (used limit : ℕ) (fit : used ≤ length jou
       (grown-good (hypothesesIn file) (listIn file) (keptIn file journal used) limit)
 
   short : length (listIn file) ≤ 4096
-  unfolding nightRun
+  unfolding settledRun
   short = code5-passed (entriesOf file) (accepted-code5 file (code-accepted file journal used limit (replicate 1024 noAnswer) accepted))
 
   pub read-back : (behind : List ℕ) → keptIn file (new ++ behind) (length new) ≡ leftIn file journal used limit
@@ -59,7 +59,7 @@ module _ (file journal : List ℕ) (used limit : ℕ) (fit : used ≤ length jou
       let left = leftIn file journal used limit in
       rw (new-records, new-spells) (kept-of-spelled (hypothesesIn file) (listIn file) short left behind (length left) left-good (le-refl (length left)) ∙ take-length left)
 
-  pub yes-is-written : (i : ℕ) → i < length (queriesIn file) → getD (nightRun file journal used limit .answers) i 0 ≡ 1 → (behind : List ℕ)
+  pub yes-is-written : (i : ℕ) → i < length (queriesIn file) → getD (settledRun file journal used limit .answers) i 0 ≡ 1 → (behind : List ℕ)
       → isOnRecord (listIn file) (keptIn file (new ++ behind) (length new)) (queryAt file i) ≡ true
-  unfolding nightRun
+  unfolding settledRun
   yes-is-written i low said behind = rw (read-back behind) (yes-recorded-only file journal used limit (replicate 1024 noAnswer) accepted i low said)

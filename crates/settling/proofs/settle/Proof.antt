@@ -1,11 +1,11 @@
--- `night::answer` meets its contract: it settles what the run left and what is printed of that.
+-- `settling::settle` meets its contract: it settles what the run left and what is printed of that.
 -- Assumes nothing.
 use borrow.Author.Needs.{needs}
 use Rattle.printing.specs.Printed.{noAnswer}
-use Rattle.night.specs.Night.{nightRun}
-use Rattle.night.proofs.Settling.{settles}
-use Rattle.night.proofs.answer.Statement.{statement}
-use Rattle.night.proofs.answer.Tie as tie
+use Rattle.settling.specs.Settled.{settledRun}
+use Rattle.settling.proofs.Settling.{settles}
+use Rattle.settling.proofs.settle.Statement.{statement}
+use Rattle.settling.proofs.settle.Tie as tie
 
 slice-aggregate-run : tie.Need-slice-aggregate-run
 slice-aggregate-run c = search needs
@@ -26,7 +26,7 @@ same-length-2 : tie.Need-same-length-2
 same-length-2 c = search needs
 
 returns : tie.Need-returns
-unfolding nightRun noAnswer
+unfolding settledRun noAnswer
 returns c =
     let printed = c .before .before in
     let ran = printed .before .before .before .before .before .before in
@@ -34,5 +34,5 @@ returns c =
     settles (start .args .file .now) (start .args .journal .now) (start .args .used) (start .args .limit) (start .args .text .now) _ _ _ (start .pre .0)
     (ran .run .ensures) (printed .print-run .ensures)
 
-pub answer-spec : {M : Type 1} → statement M
-answer-spec = tie.close (tie.spec slice-aggregate-run run-requires slice-aggregate-print-run print-run-requires same-length same-length-2 returns)
+pub settle-spec : {M : Type 1} → statement M
+settle-spec = tie.close (tie.spec slice-aggregate-run run-requires slice-aggregate-print-run print-run-requires same-length same-length-2 returns)

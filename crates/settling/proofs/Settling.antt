@@ -14,12 +14,12 @@ use Rattle.infon.proofs.Codec.{length-spelledAll}
 use Rattle.infon.proofs.Cuts.{length-written, when-passed, run-cases}
 use Rattle.printing.specs.Placed.{Prints}
 use Rattle.printing.specs.Printed.{noAnswer, printedRun, printedOf}
-use Rattle.night.specs.Night.{nightRun, nightText, Settles}
+use Rattle.settling.specs.Settled.{settledRun, settledText, Settles}
 
 -- where the used bytes lie within the buffer, they still do after a run
 pub used-within : (file journal : List ℕ) (used limit : ℕ) → used ≤ length journal
-    → nightRun file journal used limit .report .used ≤ length (nightRun file journal used limit .journal)
-unfolding nightRun refusal success code9
+    → settledRun file journal used limit .report .used ≤ length (settledRun file journal used limit .journal)
+unfolding settledRun refusal success code9
 used-within file journal used limit fit =
     run-cases file journal used limit (replicate 1024 noAnswer) (λ (o : Outcome). o .report .used ≤ length (o .journal))
     (λ code place least. fit)
@@ -32,9 +32,9 @@ used-within file journal used limit fit =
     rw (length-written journal start (spelledAll added) fits) enough)
 
 pub settles : (file journal : List ℕ) (used limit : ℕ) (text : List ℕ) (outcome : Outcome) (n : ℕ) (printed : List ℕ) → used ≤ length journal
-    → outcome ≡ nightRun file journal used limit → Prints (printedRun (outcome .report .code) (outcome .report .place) (outcome .answers)) text n printed
+    → outcome ≡ settledRun file journal used limit → Prints (printedRun (outcome .report .code) (outcome .report .place) (outcome .answers)) text n printed
     → Settles file journal used limit text (record { code = outcome .report .code; used = outcome .report .used; length = n }) (outcome .journal) printed
-unfolding nightText printedOf
+unfolding settledText printedOf
 settles file journal used limit text outcome n printed fit e p =
     let fits : outcome .report .used ≤ length (outcome .journal) = rw e (used-within file journal used limit fit) in
     record {

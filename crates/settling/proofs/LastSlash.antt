@@ -7,7 +7,7 @@ use mathlib.Core.Path.{_≡_}
 use mathlib.Core.List.{List}
 use lib.ListN.{getD}
 use borrow.Author.Tests.{eq-eqb, ne-eqb}
-use Rattle.night.specs.Night.{folderWithin}
+use Rattle.settling.specs.Folder.{folderWithin}
 
 pub slash-here : (n : ℕ) (path : List ℕ) → 0 < n → getD path (n - 1) 0 ≡ 47 → folderWithin n path ≡ n
 unfolding folderWithin

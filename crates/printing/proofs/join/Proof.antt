@@ -1,11 +1,11 @@
--- `night::join` meets its contract: the second text is put right behind the first.
+-- `printing::join` meets its contract: the second text is put right behind the first.
 -- Assumes nothing.
 use native.Mathlib.Omega.{arith}
 use lib.ListN.{length-append}
 use borrow.Author.Needs.{needs}
 use Rattle.printing.proofs.Placing.{put-on, put-prints}
-use Rattle.night.proofs.join.Statement.{statement}
-use Rattle.night.proofs.join.Tie as tie
+use Rattle.printing.proofs.join.Statement.{statement}
+use Rattle.printing.proofs.join.Tie as tie
 
 put-requires : tie.Need-put-requires
 put-requires c κs = search needs

@@ -1,14 +1,14 @@
--- `night::folder_length` meets its contract. The invariant: the folder's name lies within the bytes that are left.
+-- `settling::folder_length` meets its contract. The invariant: the folder's name lies within the bytes that are left.
 -- Assumes nothing.
 use Prim.Native.Nat.{_≤_}
 use native.Mathlib.Omega.{arith}
 use mathlib.Core.Path.{_≡_, refl, sym, _∙_}
 use lib.ListN.{length}
 use lib.Seq.{length-take-le}
-use Rattle.night.specs.Night.{folderWithin, folderLength}
-use Rattle.night.proofs.Folder.{slash-here, slash-before, no-slash}
-use Rattle.night.proofs.folder_length.Statement.{statement}
-use Rattle.night.proofs.folder_length.Tie as tie
+use Rattle.settling.specs.Folder.{folderWithin, folderLength}
+use Rattle.settling.proofs.LastSlash.{slash-here, slash-before, no-slash}
+use Rattle.settling.proofs.folder_length.Statement.{statement}
+use Rattle.settling.proofs.folder_length.Tie as tie
 
 abbrev Inv-loop : tie.InvT-loop
 Inv-loop path n₀ n = (n ≤ length path) × (folderLength path ≡ folderWithin n path)
