@@ -377,7 +377,10 @@ fn the_longest_journal_and_one_byte_more() {
     let folder = Folder::with(NIGHT.as_bytes());
     folder.set(&vec![0; MOST + 1]);
     let journal = folder.journal();
-    let message = format!("night: more than 36864 bytes in {}\n", journal.display());
+    let message = format!(
+        "night: more than 36864 bytes, which no journal has, in {}: move it away and call again\n",
+        journal.display()
+    );
     fails(&mut folder.call(1), &folder, &message);
     folder.set(&vec![0; MOST]);
     goes_through(&folder, NIGHT.as_bytes(), MOST);
