@@ -1,8 +1,7 @@
 //! Files of growing size.
 
 /// The most nodes a file is made of.
-pub const NODES: [usize; 5] = [64, 128, 256, 512, LARGEST];
-pub const LARGEST: usize = 1_024;
+pub const MOST_NODES: [usize; 5] = [64, 128, 256, 512, 1_024];
 
 /// A kind of file, made of at most so many nodes.
 pub struct Kind {
@@ -104,4 +103,14 @@ fn conjunction(leaves: usize) -> String {
         text += &format!("+ x{leaf} ");
     }
     text + "x0"
+}
+
+/// The nodes of a file: every token is one but a line's letter and a principal.
+pub fn nodes(file: &[u8]) -> usize {
+    let text = String::from_utf8_lossy(file);
+    let of_line = |line: &str| {
+        let tokens = line.split(' ').skip(1);
+        tokens.clone().count() - tokens.filter(|token| ["S", "P"].contains(token)).count()
+    };
+    text.lines().map(of_line).sum()
 }

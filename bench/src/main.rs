@@ -35,7 +35,7 @@ fn main() -> ExitCode {
 
 fn all_rows() -> Vec<Row> {
     let rows_of = |kind: files::Kind| {
-        let files = files::NODES.map(|nodes| (nodes, (kind.make)(nodes - timing::DEEP_NODES)));
+        let files = files::MOST_NODES.map(|most| (kind.make)(most - timing::DEEP_NODES));
         timing::rows(kind.name, files.into_iter())
     };
     files::KINDS.into_iter().flat_map(rows_of).collect()

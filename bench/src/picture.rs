@@ -34,8 +34,8 @@ const PANELS: [(&str, Timed); 4] = [
 
 /// The engines with their strokes.
 const ENGINES: [(&str, &str, fn(Pair) -> f64); 2] = [
-    (engine::NAME, "", |pair| pair.under_test),
-    ("fast sibling (dashed)", "6 4", |pair| pair.fast),
+    (engine::NAME, "", |pair| pair.under_test.median),
+    ("fast sibling (dashed)", "6 4", |pair| pair.fast.median),
 ];
 
 /// A logarithmic axis between two powers of ten, drawn from `from` to `to`.

@@ -1,102 +1,93 @@
-//! The Markdown table.
+//! The Markdown tables.
 
-use crate::files::LARGEST;
-use crate::timing::{Pair, Row};
+use crate::timing::{Pair, Row, Time};
 use against::engine;
 use std::fmt::Write;
 
 pub fn markdown(rows: &[Row]) -> String {
-    let mut text = heading();
-    for row in rows {
-        // Writing to a string cannot fail.
-        let _ = writeln!(
-            text,
-            "| {} | {} | {} | {} | {} | {} | {} |",
-            row.kind,
-            row.nodes,
-            row.listed,
-            row.records,
-            cells(row.from_empty),
-            cells(row.resumed),
-            cells(row.one_record),
-        );
-    }
-    text + &stages(rows) + &growth(rows)
+    whole_runs(rows) + &stages(rows) + &growth(rows)
 }
 
-fn heading() -> String {
-    format!(
-        "Medians in microseconds of the {name} (first) and the fast sibling (second), and their\n\
-         ratio. Both run in turn in one process; the buffers are cleared before each run, outside\n\
-         the time taken; the journals of the two were equal byte for byte in every run.\n\n\
-         | file | nodes at most | L | records | from empty | | ratio | from finished | | ratio | n = 1 | | ratio |\n\
-         |---|--:|--:|--:|--:|--:|--:|--:|--:|--:|--:|--:|--:|\n",
+/// Adds a row. Writing to a string cannot fail.
+fn add(text: &mut String, row: &Row, cells: &[String]) {
+    let cells = cells.join(" | ");
+    let _ = writeln!(
+        text,
+        "| {} | {} | {} | {cells} |",
+        row.kind, row.nodes, row.listed
+    );
+}
+
+fn whole_runs(rows: &[Row]) -> String {
+    let mut text = format!(
+        "Microseconds of the {name} (first) and the fast sibling (second), medians with half the way\n\
+         between the quartiles, and the ratio of the medians. Both run in turn in one process; the\n\
+         buffers are cleared before each run, outside the time taken; the journals of the two were\n\
+         equal byte for byte in every run.\n\n\
+         | file | nodes | L | from empty | | ratio | from finished | | ratio | n = 1 | | ratio |\n\
+         |---|--:|--:|--:|--:|--:|--:|--:|--:|--:|--:|--:|\n",
         name = engine::NAME
-    )
-}
-
-fn cells(pair: Pair) -> String {
-    format!(
-        "{:.1} | {:.1} | {:.2}",
-        pair.under_test,
-        pair.fast,
-        pair.under_test / pair.fast
-    )
+    );
+    for row in rows {
+        let timed = [row.from_empty, row.resumed, row.one_record];
+        add(&mut text, row, &timed.map(pair));
+    }
+    text
 }
 
 fn stages(rows: &[Row]) -> String {
     let mut text = String::from(
         "\nThe stages: reading, listing and the rest, from empty and from a finished journal.\n\n\
-         | file | L | reading | | ratio | listing | | ratio | rest | | ratio | rest from finished | | ratio |\n\
-         |---|--:|--:|--:|--:|--:|--:|--:|--:|--:|--:|--:|--:|--:|\n",
+         | file | nodes | L | reading | | ratio | listing | | ratio | rest | | ratio | rest from finished | | ratio |\n\
+         |---|--:|--:|--:|--:|--:|--:|--:|--:|--:|--:|--:|--:|--:|--:|\n",
     );
     for row in rows {
-        let _ = writeln!(
-            text,
-            "| {} | {} | {} | {} | {} | {} |",
-            row.kind,
-            row.listed,
-            cells(row.reading),
-            cells(row.listing),
-            cells(row.rest),
-            cells(row.rest_resumed),
-        );
+        let timed = [row.reading, row.listing, row.rest, row.rest_resumed];
+        add(&mut text, row, &timed.map(pair));
     }
     text
 }
 
-/// How the stages grow from files of a quarter of the most nodes to the largest.
+fn pair(pair: Pair) -> String {
+    let time = |time: Time| format!("{:.1} ±{:.1}", time.median, time.spread);
+    format!(
+        "{} | {} | {:.2}",
+        time(pair.under_test),
+        time(pair.fast),
+        pair.ratio()
+    )
+}
+
+/// How the stages grow from a kind's middle file to its largest.
 fn growth(rows: &[Row]) -> String {
     let mut text = String::from(
-        "\nThe largest file of a kind against the one of a quarter of its nodes: how much L grows,\n\
-         and the time of each stage.\n\n\
-         | file | L | L | ratio | reading | | listing | | rest | | rest from finished | |\n\
+        "\nThe largest file of a kind against the third, which has about a quarter of its nodes: how\n\
+         many times L and the time of each stage are as large.\n\n\
+         | file | nodes | L | L grows | reading | | listing | | rest | | rest from finished | |\n\
          |---|--:|--:|--:|--:|--:|--:|--:|--:|--:|--:|--:|\n",
     );
-    for large in rows.iter().filter(|row| row.nodes == LARGEST) {
-        let quarter = |row: &&Row| row.kind == large.kind && row.nodes == LARGEST / 4;
-        for small in rows.iter().filter(quarter) {
-            let _ = writeln!(
-                text,
-                "| {} | {} | {} | {:.2} | {} | {} | {} | {} |",
-                large.kind,
-                small.listed,
-                large.listed,
-                large.listed as f64 / small.listed as f64,
-                times(large.reading, small.reading),
-                times(large.listing, small.listing),
-                times(large.rest, small.rest),
-                times(large.rest_resumed, small.rest_resumed),
-            );
-        }
+    for kind in rows.chunk_by(|row, next| row.kind == next.kind) {
+        let [_, _, third, _, largest] = kind else {
+            panic!("five files of a kind");
+        };
+        let times = |of: fn(&Row) -> Pair| growths(of(third), of(largest));
+        let listed = largest.listed as f64 / third.listed as f64;
+        let cells = [
+            format!("{listed:.2}"),
+            times(|row| row.reading),
+            times(|row| row.listing),
+            times(|row| row.rest),
+            times(|row| row.rest_resumed),
+        ];
+        add(&mut text, largest, &cells);
     }
     text
 }
 
-fn times(large: Pair, small: Pair) -> String {
+fn growths(small: Pair, large: Pair) -> String {
     format!(
         "{:.2} | {:.2}",
-        large.under_test / small.under_test,
-        large.fast / small.fast
+        large.under_test.median / small.under_test.median,
+        large.fast.median / small.fast.median
     )
 }

@@ -1,6 +1,7 @@
 //! Timing two engines in turn on equal buffers, over all files of a kind in turn,
 //! so that a machine that slows down slows down all that is compared.
 
+use crate::files::nodes;
 use against::cases::sizes;
 use against::engine::under_test;
 use against::journals::{finished, RECORD};
@@ -17,11 +18,23 @@ const BUDGET: Duration = Duration::from_secs(20);
 const DEEP_LINE: &[u8] = b"Q S a S a S a S a S a a\n";
 pub const DEEP_NODES: usize = 6;
 
-/// Medians in microseconds.
+/// The median in microseconds, and half the way between the quartiles.
+#[derive(Clone, Copy)]
+pub struct Time {
+    pub median: f64,
+    pub spread: f64,
+}
+
 #[derive(Clone, Copy)]
 pub struct Pair {
-    pub under_test: f64,
-    pub fast: f64,
+    pub under_test: Time,
+    pub fast: Time,
+}
+
+impl Pair {
+    pub fn ratio(self) -> f64 {
+        self.under_test.median / self.fast.median
+    }
 }
 
 /// All that is measured on one file: whole runs from empty, from the finished
@@ -31,7 +44,6 @@ pub struct Row {
     pub kind: &'static str,
     pub nodes: usize,
     pub listed: usize,
-    pub records: usize,
     pub from_empty: Pair,
     pub resumed: Pair,
     pub one_record: Pair,
@@ -57,10 +69,10 @@ struct Subject {
 }
 
 impl Subject {
-    fn new(nodes: usize, file: Vec<u8>) -> Subject {
+    fn new(file: Vec<u8>) -> Subject {
         let (listed, queries) = sizes(&file).expect("the file is accepted");
         Subject {
-            nodes,
+            nodes: nodes(&file),
             deep: [&file, DEEP_LINE].concat(),
             listed,
             uncut: finished(&file),
@@ -89,11 +101,9 @@ impl Subject {
     }
 }
 
-/// The rows of a kind, from its files with the most nodes they are made of.
-pub fn rows(kind: &'static str, files: impl Iterator<Item = (usize, Vec<u8>)>) -> Vec<Row> {
-    let mut subjects: Vec<Subject> = files
-        .map(|(nodes, file)| Subject::new(nodes, file))
-        .collect();
+/// The rows of a kind's files.
+pub fn rows(kind: &'static str, files: impl Iterator<Item = Vec<u8>>) -> Vec<Row> {
+    let mut subjects: Vec<Subject> = files.map(Subject::new).collect();
     let mut taken: Vec<Vec<[Times; 2]>> = subjects.iter().map(|_| Vec::new()).collect();
     let begun = Instant::now();
     for count in 0..MOST_REPETITIONS {
@@ -111,14 +121,13 @@ pub fn rows(kind: &'static str, files: impl Iterator<Item = (usize, Vec<u8>)>) -
 
 fn row(kind: &'static str, subject: &Subject, taken: &[[Times; 2]]) -> Row {
     let pair = |what: usize| Pair {
-        under_test: median(taken.iter().map(|[times, _]| times[what])),
-        fast: median(taken.iter().map(|[_, times]| times[what])),
+        under_test: summary(taken.iter().map(|[times, _]| times[what])),
+        fast: summary(taken.iter().map(|[_, times]| times[what])),
     };
     Row {
         kind,
         nodes: subject.nodes,
         listed: subject.listed,
-        records: subject.records(),
         from_empty: pair(0),
         resumed: pair(1),
         one_record: pair(2),
@@ -237,8 +246,12 @@ fn closure(list: &fast::List, subject: &mut Subject, from: usize) -> Duration {
     begun.elapsed()
 }
 
-fn median(times: impl Iterator<Item = Duration>) -> f64 {
-    let mut times: Vec<Duration> = times.collect();
-    times.sort();
-    times[times.len() / 2].as_secs_f64() * 1e6
+fn summary(times: impl Iterator<Item = Duration>) -> Time {
+    let mut times: Vec<f64> = times.map(|time| time.as_secs_f64() * 1e6).collect();
+    times.sort_by(f64::total_cmp);
+    let at = |quarters: usize| times[(times.len() - 1) * quarters / 4];
+    Time {
+        median: at(2),
+        spread: (at(3) - at(1)) / 2.0,
+    }
 }

@@ -642,6 +642,22 @@ fn fault_of_buffers(policy: &Policy, journal: usize, used: usize, answers: usize
     }
 }
 
+/// Writes what was added "right after the kept part"; the kept records stay as
+/// they are.
+fn write_added(journal: &mut [u8], records: &[Record], kept: usize) {
+    let places = journal.chunks_exact_mut(RECORD_BYTES);
+    for (bytes, record) in places.zip(records).skip(kept) {
+        bytes.copy_from_slice(&record.to_bytes());
+    }
+}
+
+/// Writes one answer for each query, in the file's order.
+fn write_answers(answers: &mut [u8], policy: &Policy, recorded: &[bool], finished: bool) {
+    for (byte, query) in answers.iter_mut().zip(&policy.queries) {
+        *byte = policy.answer(*query, recorded, finished);
+    }
+}
+
 /// "A run takes the file, the journal buffer, its used length, a limit n and
 /// the answer buffer." It "adds the smaller of n and missing, each the next
 /// one, right after the kept part".
@@ -662,8 +678,7 @@ pub fn run(
     let mut records = policy.kept_part(&journal[..used]);
     let kept = records.len();
     let to_come = policy.records_to_come(&records);
-    let missing = to_come.len();
-    let added = limit.min(missing);
+    let added = limit.min(to_come.len());
     records.extend_from_slice(&to_come[..added]);
     let new_used = RECORD_BYTES * records.len();
     if new_used > journal.len() {
@@ -672,13 +687,8 @@ pub fn run(
 
     let recorded = policy.recorded(&records);
     let finished = policy.next_record(&recorded).is_none();
-    let places = journal.chunks_exact_mut(RECORD_BYTES);
-    for (bytes, record) in places.zip(&records).skip(kept) {
-        bytes.copy_from_slice(&record.to_bytes());
-    }
-    for (byte, query) in answers.iter_mut().zip(&policy.queries) {
-        *byte = policy.answer(*query, &recorded, finished);
-    }
+    write_added(journal, &records, kept);
+    write_answers(answers, &policy, &recorded, finished);
     Report {
         code: 0,
         place: 0,

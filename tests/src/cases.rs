@@ -6,6 +6,7 @@ use crate::made_up;
 use crate::rng::Rng;
 use second::fast;
 use second::slow::Policy;
+use std::iter;
 
 /// The byte that fills unused buffers, so that a stray zero is seen.
 const FILLER: u8 = 0xEE;
@@ -16,6 +17,28 @@ pub fn sizes(file: &[u8]) -> Option<(usize, usize)> {
         .and_then(|parsed| fast::list(&parsed))
         .ok()?;
     Some((list.listed(), list.queries()))
+}
+
+/// An accepted made-up file, as the slow engine reads it, and its uncut journal.
+pub struct Accepted {
+    pub file: Vec<u8>,
+    pub policy: Policy,
+    pub uncut: Vec<u8>,
+}
+
+/// Accepted made-up files without end; the same seed, the same files.
+pub fn accepted(seed: u64) -> impl Iterator<Item = Accepted> {
+    let mut rng = Rng::new(seed);
+    let files = iter::repeat_with(move || made_up::any(&mut rng));
+    files.filter_map(|file| {
+        let policy = Policy::read(&file).ok()?;
+        let uncut = journals::finished(&file);
+        Some(Accepted {
+            file,
+            policy,
+            uncut,
+        })
+    })
 }
 
 /// A run from an empty journal to the end, in buffers just large enough and a
@@ -44,8 +67,7 @@ pub fn from_journal(file: &[u8], journal: &[u8]) -> Case {
 /// Any case at all: any file, now and then a damaged one, any journal, a limit
 /// around what is missing, and buffers that are now and then too short.
 pub fn any(rng: &mut Rng) -> Case {
-    let maker = *rng.one_of(&made_up::MAKERS);
-    let mut file = maker(rng);
+    let mut file = made_up::any(rng);
     if rng.once_in(4) {
         file = made_up::damaged(rng, file);
     }

@@ -237,52 +237,46 @@ pub fn shrink(case: &Case, fails: impl Fn(&Case) -> bool) -> Case {
     let mut case = case.clone();
     loop {
         let before = size(&case);
-        leave_out(&mut case, &fails, lines, without_lines);
-        leave_out(&mut case, &fails, |case| case.file.len(), without_bytes);
-        leave_out(
-            &mut case,
-            &fails,
-            |case| case.used.min(case.journal.len()) / RECORD,
-            without_records,
-        );
-        lower(
-            &mut case,
-            &fails,
-            |case| case.limit,
-            |case, limit| case.limit = limit,
-        );
-        lower(
-            &mut case,
-            &fails,
-            |case| case.used,
-            |case, used| case.used = used,
-        );
-        lower(
-            &mut case,
-            &fails,
-            |case| case.journal.len(),
-            |case, length| case.journal.truncate(length),
-        );
-        lower(
-            &mut case,
-            &fails,
-            |case| case.answers.len(),
-            |case, length| case.answers.truncate(length),
-        );
+        for (count, without) in UNITS {
+            leave_out(&mut case, &fails, count, without);
+        }
+        for (get, set) in NUMBERS {
+            lower(&mut case, &fails, get, set);
+        }
         if size(&case) == before {
             return case;
         }
     }
 }
 
-fn size(case: &Case) -> [usize; 5] {
-    [
-        case.file.len(),
-        case.limit,
-        case.used,
-        case.journal.len(),
-        case.answers.len(),
-    ]
+/// What can be left out of a case: how many there are, and the case without
+/// some of them.
+type Units = (fn(&Case) -> usize, fn(&Case, Range<usize>) -> Case);
+
+const UNITS: [Units; 3] = [
+    (lines, without_lines),
+    (|case| case.file.len(), without_bytes),
+    (records, without_records),
+];
+
+/// What can be made smaller: a number of the case, and how it is set.
+type Number = (fn(&Case) -> usize, fn(&mut Case, usize));
+
+const NUMBERS: [Number; 4] = [
+    (|case| case.limit, |case, limit| case.limit = limit),
+    (|case| case.used, |case, used| case.used = used),
+    (
+        |case| case.journal.len(),
+        |case, length| case.journal.truncate(length),
+    ),
+    (
+        |case| case.answers.len(),
+        |case, length| case.answers.truncate(length),
+    ),
+];
+
+fn size(case: &Case) -> (usize, [usize; 4]) {
+    (case.file.len(), NUMBERS.map(|(get, _)| get(case)))
 }
 
 /// Leaves out runs of units, long ones first, as long as the case fails.
@@ -343,6 +337,11 @@ fn without_bytes(case: &Case, range: Range<usize>) -> Case {
     let mut smaller = case.clone();
     smaller.file.drain(range);
     smaller
+}
+
+/// The whole records inside the used length.
+fn records(case: &Case) -> usize {
+    case.used.min(case.journal.len()) / RECORD
 }
 
 fn without_records(case: &Case, range: Range<usize>) -> Case {

@@ -3,7 +3,8 @@
 //! Made-up files ([`made_up`]) and journals ([`journals`]) become cases
 //! ([`cases`]); each is given to both engines on equal copies, and everything
 //! they return or leave behind is compared ([`compare`]). Which engine is under
-//! test is decided in [`engine`] alone.
+//! test is decided in [`engine`] alone, and where the compiled programs stand
+//! in [`workspace`].
 
 pub mod cases;
 pub mod compare;
@@ -11,3 +12,4 @@ pub mod engine;
 pub mod journals;
 pub mod made_up;
 pub mod rng;
+pub mod workspace;

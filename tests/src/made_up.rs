@@ -9,6 +9,11 @@ pub type Maker = fn(&mut Rng) -> Vec<u8>;
 /// All generators of files that are mostly accepted.
 pub const MAKERS: [Maker; 5] = [small, lenders, tangled, late, deep];
 
+/// A file by any of these generators.
+pub fn any(rng: &mut Rng) -> Vec<u8> {
+    rng.one_of(&MAKERS)(rng)
+}
+
 const NAMES: [&str; 6] = ["b", "c", "d", "paid", "lien-7", "0"];
 const PRINCIPALS: [&str; 4] = ["a", "bank", "b", "-"];
 
@@ -373,31 +378,28 @@ fn edge(what: &'static str, file: impl Into<Vec<u8>>, code: usize, place: usize)
     }
 }
 
+/// The shortest line of a fact: four bytes, one node.
+const FACT: &str = "H b\n";
+
+/// Code 2: so many facts, and a last line that is not well formed.
+fn stray_behind(what: &'static str, facts: usize, last: &str) -> Edge {
+    edge(what, FACT.repeat(facts) + last, 2, FACT.len() * facts)
+}
+
 /// Code 1, and 01's remark on 32,768 bytes.
 pub fn edges_of_length() -> Vec<Edge> {
-    let lines = "H b\n";
     vec![
-        edge(
-            "32,768 bytes, too many nodes",
-            lines.repeat(8_192),
-            3,
-            4_096,
-        ),
+        edge("32,768 bytes, too many nodes", FACT.repeat(8_192), 3, 4_096),
         edge("32,768 bytes, one long name", "H".repeat(32_768), 2, 0),
-        edge(
-            "32,768 bytes, the last stray",
-            lines.repeat(8_191) + "H b ",
-            2,
-            32_764,
-        ),
+        stray_behind("32,768 bytes, the last stray", 8_191, "H b "),
         edge(
             "32,769 bytes, well formed",
-            lines.repeat(8_191) + "H bb\n",
+            FACT.repeat(8_191) + "H bb\n",
             1,
             0,
         ),
         edge("32,769 bytes, not well formed", "x".repeat(32_769), 1, 0),
-        edge("40,000 bytes", lines.repeat(10_000), 1, 0),
+        edge("40,000 bytes", FACT.repeat(10_000), 1, 0),
         edge(
             "19,456 bytes, the most with 1,024 nodes",
             "H abcdefghijklmnop\n".repeat(1_024),
@@ -506,12 +508,11 @@ pub fn edges_of_form() -> Vec<Edge> {
 
 /// Code 3.
 pub fn edges_of_nodes() -> Vec<Edge> {
-    let line = "H b\n";
     let sum = |operators: usize| format!("H {}b\n", "+ b ".repeat(operators));
     let sum_of_1_023 = sum(511);
     vec![
-        edge("1,024 lines", line.repeat(1_024), 0, 0),
-        edge("1,025 lines", line.repeat(1_025), 3, 4_096),
+        edge("1,024 lines", FACT.repeat(1_024), 0, 0),
+        edge("1,025 lines", FACT.repeat(1_025), 3, 4_096),
         edge("1,023 nodes and one", format!("{sum_of_1_023}Q b\n"), 0, 0),
         edge(
             "1,023 nodes and two",
@@ -522,34 +523,24 @@ pub fn edges_of_nodes() -> Vec<Edge> {
         edge("1,025 nodes in one line", sum(512), 3, 0),
         edge(
             "over in the middle of a line",
-            line.repeat(10) + &sum(511) + &line.repeat(9),
+            FACT.repeat(10) + &sum(511) + &FACT.repeat(9),
             3,
             40,
         ),
         edge(
             "over at the end of a line",
-            line.repeat(2) + &sum(511) + line,
+            FACT.repeat(2) + &sum(511) + FACT,
             3,
             8,
         ),
         edge(
             "3 before an earlier 4",
-            format!("H {}b\n{}", "P a ".repeat(5), line.repeat(1_020)),
+            format!("H {}b\n{}", "P a ".repeat(5), FACT.repeat(1_020)),
             3,
             4 * 1_018 + 24,
         ),
-        edge(
-            "2 at the end before 3",
-            line.repeat(1_100) + "H b \n",
-            2,
-            4_400,
-        ),
-        edge(
-            "2 behind node 1,025 in its line",
-            line.repeat(1_024) + "H + b\n",
-            2,
-            4_096,
-        ),
+        stray_behind("2 at the end before 3", 1_100, "H b \n"),
+        stray_behind("2 behind node 1,025 in its line", 1_024, "H + b\n"),
     ]
 }
 

@@ -1,23 +1,23 @@
 //! Codes 6, 7 and 8 at the length where they stop and one below, alone and
 //! together, and what a refusal leaves alone.
 
-use against::cases::{from_empty, sizes};
+use against::cases::{accepted, from_empty, Accepted};
 use against::compare::{Case, Checker};
+use against::journals::RECORD;
 use against::made_up;
 use against::rng::Rng;
 use second::Report;
 
 const FILLER: u8 = 0x3C;
 
-/// Accepted files, of which L and the number of queries are known.
-fn files(seed: u64, count: usize) -> impl Iterator<Item = (Vec<u8>, usize, usize)> {
-    let mut rng = Rng::new(seed);
-    let made = std::iter::repeat_with(move || rng.one_of(&made_up::MAKERS)(&mut rng));
-    made.filter_map(|file| {
-        let (listed, queries) = sizes(&file)?;
-        (listed > 0 && queries > 0).then_some((file, listed, queries))
-    })
-    .take(count)
+/// So many accepted files that ask something, each with the bytes of a journal
+/// that has room for its list, and the number of its queries.
+fn asking(seed: u64, count: usize) -> impl Iterator<Item = (Vec<u8>, usize, usize)> {
+    let sized = accepted(seed).map(|Accepted { file, policy, .. }| {
+        let room = RECORD * policy.listed();
+        (file, room, policy.queries())
+    });
+    sized.filter(|(.., queries)| *queries > 0).take(count)
 }
 
 /// A case with buffers of these lengths.
@@ -42,8 +42,7 @@ fn assert_refused(checker: &mut Checker, case: &Case, code: usize, place: usize)
 #[test]
 fn at_and_one_below() {
     let mut checker = Checker::default();
-    for (file, listed, queries) in files(31, 120) {
-        let room = 9 * listed;
+    for (file, room, queries) in asking(31, 120) {
         let accepted = checker.check(&case(&file, room, room, queries));
         assert_eq!(accepted.report.code, 0);
         assert_refused(&mut checker, &case(&file, room - 1, 0, queries), 6, 0);
@@ -58,8 +57,7 @@ fn at_and_one_below() {
 #[test]
 fn the_first_that_applies() {
     let mut checker = Checker::default();
-    for (file, listed, queries) in files(32, 80) {
-        let room = 9 * listed;
+    for (file, room, queries) in asking(32, 80) {
         assert_refused(
             &mut checker,
             &case(&file, room - 1, room, queries - 1),
@@ -85,8 +83,8 @@ fn the_first_that_applies() {
 fn longer_buffers_than_needed() {
     let mut checker = Checker::default();
     let mut rng = Rng::new(33);
-    for (file, listed, queries) in files(34, 100) {
-        let (journal, answers) = (9 * listed + rng.below(50), queries + rng.below(5));
+    for (file, room, queries) in asking(34, 100) {
+        let (journal, answers) = (room + rng.below(50), queries + rng.below(5));
         let outcome = checker.check(&case(&file, journal, rng.below(journal + 1), answers));
         assert_eq!(outcome.report.code, 0);
         assert!(outcome.answers[queries..]

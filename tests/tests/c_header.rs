@@ -2,12 +2,9 @@
 //! proved library and run.
 #![cfg(feature = "proved")]
 
-use std::path::{Path, PathBuf};
+use against::workspace::root;
+use std::path::Path;
 use std::process::Command;
-
-fn root() -> PathBuf {
-    Path::new(env!("CARGO_MANIFEST_DIR")).join("..")
-}
 
 #[test]
 fn the_second_desk_case_runs_through_the_header() {

@@ -47,8 +47,7 @@ fn cut_and_limited_runs_end_in_the_uncut_journal() {
     let mut rng = Rng::new(41);
     let mut files = 0;
     while files < 150 {
-        let maker = *rng.one_of(&made_up::MAKERS);
-        let file = maker(&mut rng);
+        let file = made_up::any(&mut rng);
         let uncut = journals::finished(&file);
         if uncut.len() < 27 {
             continue;

@@ -1,27 +1,15 @@
 //! The compiled desk program against the second program's.
 //!
-//! It stands where the variable `BRIMUSKET_DESK` says, or at `target/bin/desk`
-//! under the workspace; where it is missing, these tests fail.
+//! Where it is missing, these tests fail.
 
 use against::made_up;
 use against::rng::Rng;
+use against::workspace::program;
 use second::desk::desk;
-use std::env;
 use std::io::{ErrorKind, Write};
-use std::path::{Path, PathBuf};
 use std::process::{ChildStdin, Command, Stdio};
 use std::thread::sleep;
 use std::time::Duration;
-
-fn program() -> PathBuf {
-    let workspace = Path::new(env!("CARGO_MANIFEST_DIR")).join("..");
-    let path = match env::var_os("BRIMUSKET_DESK") {
-        Some(path) => workspace.join(path),
-        None => workspace.join("target/bin/desk"),
-    };
-    assert!(path.is_file(), "no desk program at {}", path.display());
-    path
-}
 
 /// Writes the file in pieces of this length, with a pause between them.
 fn write_in_pieces(mut input: ChildStdin, file: &[u8], length: usize) {
@@ -39,7 +27,7 @@ fn write_in_pieces(mut input: ChildStdin, file: &[u8], length: usize) {
 
 /// What the desk program prints for the file.
 fn printed(file: &[u8], piece: usize) -> String {
-    let mut child = Command::new(program())
+    let mut child = Command::new(program("desk"))
         .stdin(Stdio::piped())
         .stdout(Stdio::piped())
         .spawn()
@@ -72,8 +60,7 @@ fn prints_the_desk_cases() {
 fn prints_the_same_on_made_up_files() {
     let mut rng = Rng::new(51);
     for _ in 0..250 {
-        let maker = *rng.one_of(&made_up::MAKERS);
-        let mut file = maker(&mut rng);
+        let mut file = made_up::any(&mut rng);
         if rng.once_in(3) {
             file = made_up::damaged(&mut rng, file);
         }

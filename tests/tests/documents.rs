@@ -1,14 +1,12 @@
 //! The examples in README.md and docs/CODES.md, run as a reader would run them.
 #![cfg(feature = "proved")]
 
+use against::workspace::{program, root};
 use std::fs;
 use std::io::Write;
+use std::os::unix::fs::symlink;
 use std::path::{Path, PathBuf};
 use std::process::{Command, Stdio};
-
-fn root() -> PathBuf {
-    Path::new(env!("CARGO_MANIFEST_DIR")).join("..")
-}
 
 /// The blocks of a document that open with this line, without their fences.
 fn blocks<'d>(document: &'d str, opening: &str) -> Vec<(&'d str, &'d str)> {
@@ -25,23 +23,49 @@ fn printed(rest: &str) -> &str {
     parts.next().expect("what the example prints")
 }
 
-/// What a command of a document prints, run at the root.
-fn shell(command: &str) -> String {
+/// What README.md shows for a program below the command that builds it: the
+/// command that runs it, and the lines that are printed.
+fn example<'d>(readme: &'d str, name: &str) -> (&'d str, &'d str) {
+    let built = format!("rt check {name}\n");
+    let mut commands = blocks(readme, "```sh").into_iter();
+    let (command, rest) = commands
+        .find_map(|(commands, rest)| Some((commands.strip_prefix(&built)?, rest)))
+        .expect("an example of the program");
+    let (printed, _) = blocks(rest, "```")[0];
+    (command, printed)
+}
+
+/// A folder in which the root's commands and examples are found, and no files of
+/// earlier calls.
+fn fresh_folder(name: &str) -> PathBuf {
+    let folder = Path::new(env!("CARGO_TARGET_TMPDIR")).join(name);
+    let _ = fs::remove_dir_all(&folder);
+    fs::create_dir(&folder).expect("a new folder");
+    for part in ["bin", "examples"] {
+        let whole = root().canonicalize().expect("the root").join(part);
+        symlink(whole, folder.join(part)).expect("a link");
+    }
+    folder
+}
+
+/// What a command of a document prints, run in a folder.
+fn shell(command: &str, folder: &Path) -> String {
     let output = Command::new("sh")
         .args(["-c", command])
-        .current_dir(root())
+        .current_dir(folder)
         .output()
         .expect("a shell");
+    assert!(output.status.success(), "{command}: {output:?}");
     String::from_utf8(output.stdout).expect("text")
 }
 
 /// What the desk program prints for a policy file.
 fn desk(policy: &str) -> String {
-    let mut child = Command::new(root().join("target/bin/desk"))
+    let mut child = Command::new(program("desk"))
         .stdin(Stdio::piped())
         .stdout(Stdio::piped())
         .spawn()
-        .expect("the desk program: rt check desk");
+        .expect("the desk program starts");
     let mut input = child.stdin.take().expect("a pipe");
     input
         .write_all(policy.as_bytes())
@@ -52,12 +76,20 @@ fn desk(policy: &str) -> String {
 }
 
 #[test]
-fn the_first_example_of_the_readme_prints_what_it_says() {
+fn the_desk_example_of_the_readme_prints_what_it_says() {
     let readme = fs::read_to_string(root().join("README.md")).expect("README.md");
-    let (commands, rest) = blocks(&readme, "```sh")[0];
-    let (_, command) = commands.split_once('\n').expect("two commands");
-    let (expected, _) = blocks(rest, "```")[0];
-    assert_eq!(shell(command).trim_end(), expected);
+    let (command, expected) = example(&readme, "desk");
+    assert_eq!(shell(command, &root()).trim_end(), expected);
+}
+
+/// The second call finds the journal that the first one left.
+#[test]
+fn the_night_example_of_the_readme_prints_what_it_says() {
+    let readme = fs::read_to_string(root().join("README.md")).expect("README.md");
+    let (command, expected) = example(&readme, "night");
+    let folder = fresh_folder("night-example");
+    assert_eq!(shell(command, &folder).trim_end(), expected);
+    assert_eq!(shell(command, &folder).trim_end(), expected);
 }
 
 #[test]
@@ -77,6 +109,10 @@ fn the_commands_shown_for_the_codes_are_refused_as_they_say() {
     let examples = blocks(&codes, "```sh");
     assert_eq!(examples.len(), 3);
     for (command, rest) in examples {
-        assert_eq!(shell(command).trim_end(), printed(rest), "{command}");
+        assert_eq!(
+            shell(command, &root()).trim_end(),
+            printed(rest),
+            "{command}"
+        );
     }
 }

@@ -1,6 +1,6 @@
 //! Made-up journals: what is kept, and what is added behind it.
 
-use against::cases::{from_journal, with_any_journal};
+use against::cases::{accepted, from_journal, with_any_journal, Accepted};
 use against::compare::Checker;
 use against::journals::{self, RECORD};
 use against::made_up;
@@ -18,16 +18,10 @@ const FILES: [&[u8]; 4] = [
     b"H > + b c d\nH b\nH c\nQ d\nQ + d b\n",
 ];
 
-/// Accepted made-up files that have something to record.
-fn files(seed: u64, count: usize) -> impl Iterator<Item = (Vec<u8>, Policy, Vec<u8>)> {
-    let mut rng = Rng::new(seed);
-    let made = std::iter::repeat_with(move || rng.one_of(&made_up::MAKERS)(&mut rng));
-    made.filter_map(|file| {
-        let policy = Policy::read(&file).ok()?;
-        let journal = journals::finished(&file);
-        (journal.len() > RECORD).then_some((file, policy, journal))
-    })
-    .take(count)
+/// So many accepted files with more than one record to their journals.
+fn recording(seed: u64, count: usize) -> impl Iterator<Item = Accepted> {
+    let files = accepted(seed).filter(|made| made.uncut.len() > RECORD);
+    files.take(count)
 }
 
 #[test]
@@ -113,13 +107,13 @@ fn any_good_record_instead_of_the_next() {
     let mut checker = Checker::default();
     let mut rng = Rng::new(11);
     let mut in_another_order = 0;
-    for (file, policy, uncut) in files(12, 800) {
-        let journal = journals::wandering(&mut rng, &policy);
-        let outcome = checker.check(&from_journal(&file, &journal));
+    for made in recording(12, 800) {
+        let journal = journals::wandering(&mut rng, &made.policy);
+        let outcome = checker.check(&from_journal(&made.file, &journal));
         assert_eq!(outcome.report.kept, journal.len() / RECORD);
         assert_eq!(outcome.journal[..journal.len()], journal);
-        assert_eq!(outcome.report.used, uncut.len());
-        in_another_order += usize::from(!uncut.starts_with(&journal));
+        assert_eq!(outcome.report.used, made.uncut.len());
+        in_another_order += usize::from(!made.uncut.starts_with(&journal));
     }
     assert!(in_another_order > 500, "{in_another_order}");
     println!("{} calls", checker.calls);
@@ -129,15 +123,15 @@ fn any_good_record_instead_of_the_next() {
 fn spoiled() {
     let mut checker = Checker::default();
     let mut rng = Rng::new(13);
-    for (file, policy, uncut) in files(14, 1_200) {
-        let mut journal = uncut;
+    for made in recording(14, 1_200) {
+        let mut journal = made.uncut;
         if rng.once_in(3) {
-            journal = journals::wandering(&mut rng, &policy);
+            journal = journals::wandering(&mut rng, &made.policy);
         }
         for _ in 0..1 + rng.below(2) {
-            journals::spoil(&mut rng, &mut journal, policy.listed());
+            journals::spoil(&mut rng, &mut journal, made.policy.listed());
         }
-        let mut case = from_journal(&file, &journal);
+        let mut case = from_journal(&made.file, &journal);
         if rng.once_in(2) {
             case.limit = rng.below(8);
         }
@@ -151,7 +145,7 @@ fn spoiled() {
 fn random_bytes() {
     let mut checker = Checker::default();
     let mut rng = Rng::new(15);
-    for (file, ..) in files(16, 200) {
+    for Accepted { file, .. } in recording(16, 200) {
         let length = rng.below(60);
         let outcome = checker.check(&from_journal(&file, &rng.bytes(length)));
         assert_eq!(outcome.report.kept, 0);
@@ -165,7 +159,7 @@ fn random_bytes() {
 fn padded() {
     let mut checker = Checker::default();
     let mut rng = Rng::new(17);
-    for (file, _, uncut) in files(18, 400) {
+    for Accepted { file, uncut, .. } in recording(18, 400) {
         let mut journal = uncut.clone();
         let padding = rng.below(30);
         journal.extend(rng.bytes(padding));
@@ -184,8 +178,7 @@ fn anything() {
     let mut checker = Checker::default();
     let mut rng = Rng::new(19);
     for _ in 0..800 {
-        let maker = *rng.one_of(&made_up::MAKERS);
-        let file = maker(&mut rng);
+        let file = made_up::any(&mut rng);
         checker.check(&with_any_journal(&mut rng, &file));
     }
     assert!(checker.kept > 200);

@@ -1,25 +1,20 @@
 //! The limit n: every n from 0 to one more than all, at once and one by one.
 
-use against::cases::from_empty;
+use against::cases::{accepted, from_empty};
 use against::compare::{Case, Checker};
-use against::made_up;
+use against::journals::RECORD;
 use against::rng::Rng;
 
-/// Small files with the number of records in their uncut journals.
-fn files(seed: u64, count: usize) -> impl Iterator<Item = (Vec<u8>, usize)> {
-    let mut rng = Rng::new(seed);
-    let made = std::iter::repeat_with(move || rng.one_of(&made_up::MAKERS)(&mut rng));
-    made.filter_map(|file| {
-        let report = Checker::default().check(&from_empty(&file)).report;
-        (report.code == 0 && (2..25).contains(&report.added)).then_some((file, report.added))
-    })
-    .take(count)
+/// So many accepted files of 2 to 24 records, each with their number.
+fn short(seed: u64, count: usize) -> impl Iterator<Item = (Vec<u8>, usize)> {
+    let files = accepted(seed).map(|made| (made.file, made.uncut.len() / RECORD));
+    files.filter(|(_, all)| (2..25).contains(all)).take(count)
 }
 
 #[test]
 fn every_limit_from_empty() {
     let mut checker = Checker::default();
-    for (file, all) in files(21, 80) {
+    for (file, all) in short(21, 80) {
         let uncut = checker.check(&from_empty(&file)).journal;
         for limit in 0..=all + 1 {
             let case = Case {
@@ -29,7 +24,7 @@ fn every_limit_from_empty() {
             let outcome = checker.check(&case);
             assert_eq!(outcome.report.added, limit.min(all));
             assert_eq!(outcome.report.finished, limit >= all);
-            let (added, rest) = outcome.journal.split_at(9 * limit.min(all));
+            let (added, rest) = outcome.journal.split_at(RECORD * limit.min(all));
             assert_eq!(added, &uncut[..added.len()]);
             assert_eq!(rest, &case.journal[added.len()..]);
         }
@@ -38,13 +33,13 @@ fn every_limit_from_empty() {
     println!("{} calls", checker.calls);
 }
 
-/// A first run with one limit and a second with another leave what one run
-/// with their sum leaves, journal and answers.
+/// Runs with limit 1, as many as the limit of one run, leave what that one run
+/// leaves, journal and answers.
 #[test]
 fn at_once_or_one_by_one() {
     let mut checker = Checker::default();
     let mut rng = Rng::new(22);
-    for (file, all) in files(23, 60) {
+    for (file, all) in short(23, 60) {
         let total = rng.below(all + 2);
         let mut case = from_empty(&file);
         case.limit = total;
@@ -53,7 +48,7 @@ fn at_once_or_one_by_one() {
         case.limit = 1;
         for _ in 0..total {
             let outcome = checker.check(&case);
-            assert_eq!(outcome.report.kept, case.used / 9);
+            assert_eq!(outcome.report.kept, case.used / RECORD);
             case.journal = outcome.journal;
             case.used = outcome.report.used;
         }
@@ -71,7 +66,7 @@ fn at_once_or_one_by_one() {
 #[test]
 fn the_greatest_limits() {
     let mut checker = Checker::default();
-    for (file, all) in files(24, 30) {
+    for (file, all) in short(24, 30) {
         for limit in [
             4_097,
             65_536,

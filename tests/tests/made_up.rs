@@ -71,8 +71,7 @@ fn large() {
 #[test]
 fn damaged() {
     let checker = check_many(6, 2_000, |rng| {
-        let maker = *rng.one_of(&made_up::MAKERS);
-        let file = maker(rng);
+        let file = made_up::any(rng);
         made_up::damaged(rng, file)
     });
     assert!(checker.codes[0] > 40, "{:?}", checker.codes);

@@ -1,20 +1,22 @@
 //! Real faults on the compiled night program: kills, cuts, old bytes, full and
 //! unwritable disks, system calls that fail, a held lock.
 //!
-//! It stands where the variable `BRIMUSKET_NIGHT` says, or at `target/bin/night`
-//! under the workspace; where it is missing, these tests fail. After every call
-//! the second program reads the journal file: each printed yes must be on record
-//! there, and the file must be the old one or the whole new one.
+//! Where the program is missing these tests fail, and where strace is missing
+//! those that need it, unless WITHOUT_STRACE is set. After every call the second
+//! program reads the journal file: each printed yes must be on record there, and
+//! the file must be the old one or the whole new one.
 
 use against::journals::{self, RECORD};
 use against::made_up;
 use against::rng::Rng;
+use against::workspace::{program, root};
 use second::fast;
 use second::slow::Policy;
 use std::env;
 use std::fs;
 use std::io::{Read, Write};
-use std::os::unix::fs::PermissionsExt;
+use std::os::unix::fs::{symlink, PermissionsExt};
+use std::os::unix::net::UnixListener;
 use std::os::unix::process::{CommandExt, ExitStatusExt};
 use std::path::{Path, PathBuf};
 use std::process::{Child, Command, Output, Stdio};
@@ -27,19 +29,6 @@ const NIGHT: &str = include_str!("../../crates/night/data/night.policy");
 
 /// Bytes of the longest journal.
 const MOST: usize = RECORD * 4_096;
-
-fn workspace() -> PathBuf {
-    Path::new(env!("CARGO_MANIFEST_DIR")).join("..")
-}
-
-fn program() -> PathBuf {
-    let path = match env::var_os("BRIMUSKET_NIGHT") {
-        Some(path) => workspace().join(path),
-        None => workspace().join("target/bin/night"),
-    };
-    assert!(path.is_file(), "no night program at {}", path.display());
-    path
-}
 
 /// A folder of its own, removed at the end.
 struct Folder(PathBuf);
@@ -78,6 +67,13 @@ impl Folder {
         fs::read(self.journal()).unwrap_or_default()
     }
 
+    /// A folder with the night's policy and a journal cut inside a record.
+    fn cut_night() -> Folder {
+        let folder = Folder::with(NIGHT.as_bytes());
+        folder.set(&journals::finished(NIGHT.as_bytes())[..20]);
+        folder
+    }
+
     fn set(&self, journal: &[u8]) {
         fs::write(self.journal(), journal).expect("the journal is written");
     }
@@ -94,7 +90,7 @@ impl Drop for Folder {
 }
 
 fn call(policy: &Path, journal: &Path, limit: &str) -> Command {
-    let mut command = Command::new(program());
+    let mut command = Command::new(program("night"));
     command.arg(policy).arg(journal).arg(limit);
     command
 }
@@ -169,12 +165,18 @@ fn fails(command: &mut Command, folder: &Folder, message: &str) {
     assert!(fs::read(folder.journal()).ok() == old, "{message}");
 }
 
+/// The message that something cannot be done to a file or folder.
+fn cannot(what: &str, path: &Path, why: &str) -> String {
+    format!("night: cannot {what} {}: {why}\n", path.display())
+}
+
 /// Prints a line that is seen also where the test passes.
 fn say(figures: &str) {
     let _ = writeln!(std::io::stdout(), "night_faults: {figures}");
 }
 
-/// Policies of three sizes, with their uncut journals.
+/// Four policies: the night's, and three made-up ones of different sizes, each
+/// with a yes and more than nine records.
 fn policies(rng: &mut Rng) -> Vec<Vec<u8>> {
     let mut found = vec![NIGHT.as_bytes().to_vec()];
     for maker in [made_up::lenders, made_up::tangled, made_up::large] {
@@ -205,6 +207,17 @@ fn killed_after(mut child: Child, delay: Duration) -> (bool, Vec<u8>) {
     (status.signal().is_some(), text)
 }
 
+/// A call that is ended after the delay: whether it was killed, and how many yes
+/// lines it had printed.
+fn killed_call(folder: &Folder, policy: &[u8], limit: usize, delay: Duration) -> (bool, usize) {
+    let old = folder.kept();
+    let mut command = folder.call(limit);
+    let child = command.stdout(Stdio::piped()).spawn().expect("it starts");
+    let (killed, text) = killed_after(child, delay);
+    old_or_new(folder, policy, &old, limit);
+    (killed, yes_on_record(&text, policy, &folder.kept()))
+}
+
 /// The file is the old journal or the whole new one.
 fn old_or_new(folder: &Folder, policy: &[u8], old: &[u8], limit: usize) -> Expected {
     let whole = expected(policy, old, limit);
@@ -225,14 +238,10 @@ fn killed_at_random_moments() {
         let mut most = 4_000;
         let mut here = 0;
         while here < 60 {
-            let old = folder.kept();
             let limit = rng.below(1 + uncut.len() / RECORD / 4);
-            let mut command = folder.call(limit);
-            let child = command.stdout(Stdio::piped()).spawn().expect("it starts");
             let delay = Duration::from_micros(rng.below(most) as u64);
-            let (killed, text) = killed_after(child, delay);
-            old_or_new(&folder, &policy, &old, limit);
-            yes += yes_on_record(&text, &policy, &folder.kept());
+            let (killed, printed) = killed_call(&folder, &policy, limit, delay);
+            yes += printed;
             most = if killed {
                 most + most / 20
             } else {
@@ -314,91 +323,95 @@ fn filled_with_old_bytes() {
 
 #[test]
 #[cfg_attr(not(feature = "proved"), ignore = "needs the proved night program")]
-fn wrong_arguments_and_files() {
-    let folder = Folder::with(NIGHT.as_bytes());
-    let (policy, journal) = (folder.policy(), folder.journal());
-    folder.set(&journals::finished(NIGHT.as_bytes())[..20]);
+fn wrong_numbers_of_arguments() {
+    let folder = Folder::cut_night();
     let usage = "night: usage: night POLICY JOURNAL [LIMIT]\n";
-    fails(&mut Command::new(program()), &folder, usage);
-    fails(Command::new(program()).arg(&policy), &folder, usage);
+    let mut alone = Command::new(program("night"));
+    fails(&mut alone, &folder, usage);
+    fails(alone.arg(folder.policy()), &folder, usage);
     fails(folder.call(1).arg("more"), &folder, usage);
-    let no_number = "night: the limit is not a number of one to nine digits\n";
-    let texts = [
-        "",
-        "x",
-        "-1",
-        "+1",
-        " 1",
-        "1 ",
-        "1234567890",
-        "99999999999999999999",
-    ];
-    for text in texts {
-        fails(&mut call(&policy, &journal, text), &folder, no_number);
-    }
-    let nowhere = folder.0.join("none");
-    let message = format!(
-        "night: cannot open {}: No such file or directory\n",
-        nowhere.display()
-    );
-    fails(&mut call(&nowhere, &journal, "1"), &folder, &message);
-    let message = format!(
-        "night: cannot read {}: Is a directory\n",
-        folder.0.display()
-    );
-    fails(&mut call(&folder.0, &journal, "1"), &folder, &message);
-    fails(&mut call(&policy, &folder.0, "1"), &folder, &message);
-    let message = format!(
-        "night: cannot open the folder {}/: No such file or directory\n",
-        nowhere.display()
-    );
-    fails(
-        &mut call(&policy, &nowhere.join("journal"), "1"),
-        &folder,
-        &message,
-    );
-    let long = "x".repeat(5_000);
-    let message = "night: the policy's name: File name too long\n";
-    fails(&mut call(Path::new(&long), &journal, "1"), &folder, message);
-    let message = "night: the journal's name: File name too long\n";
-    fails(&mut call(&policy, Path::new(&long), "1"), &folder, message);
-    fails(
-        &mut call(Path::new(""), &journal, "1"),
-        &folder,
-        "night: cannot open : No such file or directory\n",
-    );
-    let others = 3 + texts.len() + 7;
+    say("3 calls with too few or too many arguments: the usage, the journal whole");
+}
 
+#[test]
+#[cfg_attr(not(feature = "proved"), ignore = "needs the proved night program")]
+fn limits_that_are_no_number() {
+    let folder = Folder::cut_night();
+    let message = "night: the limit is not a number of one to nine digits\n";
+    let twenty = "99999999999999999999";
+    for limit in ["", "x", "-1", "+1", " 1", "1 ", "1234567890", twenty] {
+        let mut command = call(&folder.policy(), &folder.journal(), limit);
+        fails(&mut command, &folder, message);
+    }
+    say("8 limits that are no number: a message, the journal whole");
+}
+
+#[test]
+#[cfg_attr(not(feature = "proved"), ignore = "needs the proved night program")]
+fn files_that_cannot_be_read() {
+    let folder = Folder::cut_night();
+    let (here, policy, journal) = (&folder.0, &folder.policy(), &folder.journal());
+    let (empty, long) = (&PathBuf::new(), &PathBuf::from("x".repeat(5_000)));
+    let (missing, apart) = (&here.join("none"), &here.join("none/journal"));
+    let nothing = "No such file or directory";
+    let of_folder = cannot("open the folder", &missing.join(""), nothing);
+    let too_long = |whose| format!("night: the {whose}'s name: File name too long\n");
+    let rows = [
+        (missing, journal, cannot("open", missing, nothing)),
+        (empty, journal, cannot("open", empty, nothing)),
+        (here, journal, cannot("read", here, "Is a directory")),
+        (policy, here, cannot("read", here, "Is a directory")),
+        (policy, apart, of_folder),
+        (long, journal, too_long("policy")),
+        (policy, long, too_long("journal")),
+    ];
+    for (policy, journal, message) in rows {
+        fails(&mut call(policy, journal, "1"), &folder, &message);
+    }
+    say("7 calls on files that cannot be read: a message, the journal whole");
+}
+
+#[test]
+#[cfg_attr(not(feature = "proved"), ignore = "needs the proved night program")]
+fn the_longest_journal_and_one_byte_more() {
+    let folder = Folder::with(NIGHT.as_bytes());
     folder.set(&vec![0; MOST + 1]);
-    let message = format!("night: more than 36864 bytes in {}\n", journal.display());
+    let journal = folder.journal();
+    let message = format!(
+        "night: more than 36864 bytes, which no journal has, in {}: move it away and call again\n",
+        journal.display()
+    );
     fails(&mut folder.call(1), &folder, &message);
     folder.set(&vec![0; MOST]);
     goes_through(&folder, NIGHT.as_bytes(), MOST);
+    say("a journal of 36,865 bytes: a message, the journal whole; one of 36,864 is read");
+}
 
-    let refusals: [(Vec<u8>, &str); 3] = [
-        (vec![b'x'; 32_769], "refused 1 0\n"),
-        (vec![b'x'; 100_000], "refused 1 0\n"),
-        (b"H b\nQ  b\n".to_vec(), "refused 2 4\n"),
+#[test]
+#[cfg_attr(not(feature = "proved"), ignore = "needs the proved night program")]
+fn refused_policies() {
+    let folder = Folder::cut_night();
+    let old = folder.kept();
+    let refusals: [(&[u8], &str); 3] = [
+        (&[b'x'; 32_769], "refused 1 0\n"),
+        (&[b'x'; 100_000], "refused 1 0\n"),
+        (b"H b\nQ  b\n", "refused 2 4\n"),
     ];
     for (file, text) in refusals {
-        fs::write(&policy, file).expect("the policy is written");
-        let old = folder.kept();
+        fs::write(folder.policy(), file).expect("the policy is written");
         let said = folder.call(1).output().expect("it runs");
         assert_eq!(String::from_utf8_lossy(&said.stdout), text);
         assert!(said.stderr.is_empty() && folder.kept() == old);
         assert!(!folder.new_file().exists());
     }
-    say(&format!(
-        "{} wrong calls, each with its message, and 3 refusals; nothing changed",
-        others + 1
-    ));
+    say("3 refused policies: code and place, the journal whole");
 }
 
 /// A call through a shell that first sets something.
 fn after(setting: &str, folder: &Folder) -> Command {
     let mut command = Command::new("sh");
     let text = format!("{setting}; exec \"$@\"");
-    command.args(["-c", &text, "sh"]).arg(program());
+    command.args(["-c", &text, "sh"]).arg(program("night"));
     command.arg(folder.policy()).arg(folder.journal());
     command
 }
@@ -410,10 +423,7 @@ fn full_disk() {
     let policy = policies(&mut rng).pop().expect("the large one");
     let folder = Folder::with(&policy);
     let uncut = journals::finished(&policy);
-    let message = format!(
-        "night: cannot write {}: File too large\n",
-        folder.new_file().display()
-    );
+    let message = cannot("write", &folder.new_file(), "File too large");
     assert!(uncut.len() > 1_024, "longer than a block");
     for blocks in [0, 1] {
         for old in [&uncut[..0], &uncut[..uncut.len() / 2], &uncut] {
@@ -441,7 +451,7 @@ fn full_disk() {
 /// The call by a user who may do nothing, where the test is run by root.
 fn by_nobody(folder: &Folder) -> Command {
     let copy = folder.0.join("program");
-    fs::copy(program(), &copy).expect("a copy of the program");
+    fs::copy(program("night"), &copy).expect("a copy of the program");
     let mut command = Command::new(copy);
     command.arg(folder.policy()).arg(folder.journal());
     let id = Command::new("id").arg("-u").output().expect("id runs");
@@ -451,66 +461,78 @@ fn by_nobody(folder: &Folder) -> Command {
     command
 }
 
+const DENIED: &str = "Permission denied";
+
 fn mode(path: &Path, bits: u32) {
     fs::set_permissions(path, fs::Permissions::from_mode(bits)).expect("another mode");
 }
 
 #[test]
 #[cfg_attr(not(feature = "proved"), ignore = "needs the proved night program")]
-fn made_unwritable() {
-    let folder = Folder::with(NIGHT.as_bytes());
-    folder.set(&journals::finished(NIGHT.as_bytes())[..30]);
+fn folder_made_unwritable() {
+    let folder = Folder::cut_night();
     let mut command = by_nobody(&folder);
-    let denied = |what: &str, path: &Path| {
-        format!(
-            "night: cannot {what} {}: Permission denied\n",
-            path.display()
-        )
-    };
+    let new_file = folder.new_file();
     mode(&folder.0, 0o555);
-    let message = denied("make", &folder.new_file());
-    fails(&mut command, &folder, &message);
+    fails(&mut command, &folder, &cannot("make", &new_file, DENIED));
     mode(&folder.0, 0o755);
-    fs::write(folder.new_file(), b"left").expect("what a crash left");
+    fs::write(&new_file, b"left").expect("what a crash left");
     mode(&folder.0, 0o555);
-    let message = denied("remove", &folder.new_file());
-    fails(&mut command, &folder, &message);
-    mode(&folder.0, 0o711);
-    let message = denied("open the folder", &folder.0.join(""));
-    let id = Command::new("id").arg("-u").output().expect("id runs");
-    if id.stdout == b"0\n" {
-        fails(&mut command, &folder, &message);
-    }
+    fails(&mut command, &folder, &cannot("remove", &new_file, DENIED));
     mode(&folder.0, 0o755);
-    mode(&folder.journal(), 0o000);
-    let message = denied("open", &folder.journal());
-    let said = command.output().expect("it runs");
-    assert_eq!(String::from_utf8_lossy(&said.stderr), message);
-    mode(&folder.journal(), 0o644);
-    mode(&folder.policy(), 0o000);
-    let message = denied("open", &folder.policy());
-    fails(&mut command, &folder, &message);
-    mode(&folder.policy(), 0o644);
-
-    fs::remove_file(folder.new_file()).expect("it is there");
-    fs::create_dir(folder.new_file()).expect("a folder in its place");
-    let message = format!(
-        "night: cannot remove {}: Is a directory\n",
-        folder.new_file().display()
-    );
-    fails(&mut folder.call(1), &folder, &message);
-    fs::remove_dir(folder.new_file()).expect("it is there");
-    fs::hard_link(folder.journal(), folder.new_file()).expect("a link");
-    goes_through(&folder, NIGHT.as_bytes(), 2);
     goes_through(&folder, NIGHT.as_bytes(), MOST);
-    say("6 calls on unwritable and unreadable files and folders: no answer, the journal whole");
+    say("2 calls in an unwritable folder: no answer, the journal whole");
 }
 
-/// Whether strace can be used here.
+#[test]
+#[cfg_attr(not(feature = "proved"), ignore = "needs the proved night program")]
+fn made_unreadable() {
+    let folder = Folder::cut_night();
+    let mut command = by_nobody(&folder);
+    let (here, policy, journal) = (&folder.0, &folder.policy(), &folder.journal());
+    let of_folder = cannot("open the folder", &here.join(""), DENIED);
+    let rows = [
+        // Anyone may enter the folder, and not even its owner may open it.
+        (here, 0o311, of_folder),
+        (journal, 0o000, cannot("open", journal, DENIED)),
+        (policy, 0o000, cannot("open", policy, DENIED)),
+    ];
+    for (path, bits, message) in rows {
+        let old = fs::metadata(path).expect("it is there").permissions();
+        mode(path, bits);
+        fails(&mut command, &folder, &message);
+        fs::set_permissions(path, old).expect("the old mode");
+    }
+    goes_through(&folder, NIGHT.as_bytes(), MOST);
+    say("3 calls on an unreadable folder or file: no answer, the journal whole");
+}
+
+#[test]
+#[cfg_attr(not(feature = "proved"), ignore = "needs the proved night program")]
+fn the_new_files_place_is_taken() {
+    let folder = Folder::cut_night();
+    let new_file = folder.new_file();
+    fs::create_dir(&new_file).expect("a folder in its place");
+    let message = cannot("remove", &new_file, "Is a directory");
+    fails(&mut folder.call(1), &folder, &message);
+    fs::remove_dir(&new_file).expect("it is there");
+    fs::hard_link(folder.journal(), &new_file).expect("a link");
+    goes_through(&folder, NIGHT.as_bytes(), 2);
+    goes_through(&folder, NIGHT.as_bytes(), MOST);
+    say("a folder in the new file's place: no answer, the journal whole; a link: an answer");
+}
+
+/// Only under strace is the order of the system calls tested, so it must be here,
+/// unless whoever calls the tests knows that it is not.
 fn has_strace() -> bool {
+    if env::var_os("WITHOUT_STRACE").is_some() {
+        return false;
+    }
     let mut command = Command::new("strace");
-    command.args(["-o", "/dev/null", "true"]);
-    command.output().is_ok_and(|output| output.status.success())
+    let traced = command.args(["-o", "/dev/null", "true"]).output();
+    let runs = traced.is_ok_and(|output| output.status.success());
+    assert!(runs, "strace cannot be run: apt-get install strace");
+    true
 }
 
 /// The call with a fault at one system call, and whether the fault came.
@@ -527,7 +549,7 @@ fn with_fault(
     command.arg(format!("--trace={name}"));
     command.arg(format!("--inject={name}:{fault}:when={count}"));
     command
-        .arg(program())
+        .arg(program("night"))
         .arg(folder.policy())
         .arg(folder.journal());
     command.arg(limit.to_string());
@@ -544,36 +566,44 @@ const CALLS: [&str; 7] = [
     "openat", "read", "unlink", "write", "fsync", "rename", "close",
 ];
 
+/// A call with a fault, and one more without: how many yes lines the first one
+/// printed, or none where the fault did not come.
+fn fails_and_recovers(old: &[u8], name: &str, fault: &str, count: usize) -> Option<usize> {
+    let policy = NIGHT.as_bytes();
+    let folder = Folder::with(policy);
+    folder.set(old);
+    let (said, came) = with_fault(&folder, 9, name, fault, count);
+    if !came {
+        return None;
+    }
+    let whole = old_or_new(&folder, policy, old, 9);
+    let text = String::from_utf8_lossy(&said.stdout);
+    assert!(text.is_empty() || text == whole.text, "{text}");
+    let yes = yes_on_record(&said.stdout, policy, &folder.kept());
+    let forced = name == "fsync" || name == "rename";
+    assert!(text.is_empty() || !forced, "an answer after {name}");
+    let told = !said.stderr.is_empty() || !said.status.success();
+    assert_eq!(told, text.is_empty(), "{name} {fault} {count}");
+    goes_through(&folder, policy, MOST);
+    let uncut = journals::finished(policy);
+    assert!(folder.kept() == uncut, "another finished journal");
+    Some(yes)
+}
+
 #[test]
 #[cfg_attr(not(feature = "proved"), ignore = "needs the proved night program")]
 fn every_system_call_fails_once() {
     if !has_strace() {
-        say("no strace here: the calls that fail one by one are left out");
         return;
     }
-    let policy = NIGHT.as_bytes();
-    let uncut = journals::finished(policy);
+    let uncut = journals::finished(NIGHT.as_bytes());
     let (mut faults, mut kills, mut yes) = (0, 0, 0);
     for old in [&uncut[..31], &uncut] {
         for name in CALLS {
             for fault in ["error=EIO", "error=ENOSPC", "signal=SIGKILL"] {
-                for count in 1.. {
-                    let folder = Folder::with(policy);
-                    folder.set(old);
-                    let (said, came) = with_fault(&folder, 9, name, fault, count);
-                    if !came {
-                        break;
-                    }
-                    let whole = old_or_new(&folder, policy, old, 9);
-                    let text = String::from_utf8_lossy(&said.stdout).into_owned();
-                    assert!(text.is_empty() || text == whole.text, "{text}");
-                    yes += yes_on_record(&said.stdout, policy, &folder.kept());
-                    let forced = name == "fsync" || name == "rename";
-                    assert!(text.is_empty() || !forced, "an answer after {name}");
-                    let told = !said.stderr.is_empty() || !said.status.success();
-                    assert_eq!(told, text.is_empty(), "{name} {fault} {count}");
-                    goes_through(&folder, policy, MOST);
-                    assert!(folder.kept() == uncut, "another finished journal");
+                let calls = (1..).map_while(|count| fails_and_recovers(old, name, fault, count));
+                for printed in calls {
+                    yes += printed;
                     faults += 1;
                     kills += usize::from(fault == "signal=SIGKILL");
                 }
@@ -590,7 +620,6 @@ fn every_system_call_fails_once() {
 #[cfg_attr(not(feature = "proved"), ignore = "needs the proved night program")]
 fn fsync_fails() {
     if !has_strace() {
-        say("no strace here: fsync that fails is left out");
         return;
     }
     let policy = NIGHT.as_bytes();
@@ -600,18 +629,12 @@ fn fsync_fails() {
         folder.set(old);
         let (said, came) = with_fault(&folder, MOST, "fsync", "error=EIO", 1);
         assert!(came && said.stdout.is_empty());
-        let message = format!(
-            "night: cannot fsync {}: Input/output error\n",
-            folder.new_file().display()
-        );
+        let message = cannot("fsync", &folder.new_file(), "Input/output error");
         assert_eq!(String::from_utf8_lossy(&said.stderr), message);
         assert!(folder.kept() == old && !folder.new_file().exists());
         let (said, came) = with_fault(&folder, MOST, "fsync", "error=EIO", 2);
         assert!(came && said.stdout.is_empty());
-        let message = format!(
-            "night: cannot fsync {}/: Input/output error\n",
-            folder.0.display()
-        );
+        let message = cannot("fsync", &folder.0.join(""), "Input/output error");
         assert_eq!(String::from_utf8_lossy(&said.stderr), message);
         assert!(folder.kept() == uncut);
     }
@@ -621,8 +644,8 @@ fn fsync_fails() {
 
 /// A call of the script.
 fn script(folder: &Folder, limit: &str) -> Command {
-    let mut command = Command::new(workspace().join("bin/night"));
-    command.env("NIGHT_PROGRAM", program());
+    let mut command = Command::new(root().join("bin/night"));
+    command.env("NIGHT_PROGRAM", program("night"));
     command
         .arg(folder.policy())
         .arg(folder.journal())
@@ -630,65 +653,188 @@ fn script(folder: &Folder, limit: &str) -> Command {
     command
 }
 
+/// What a call of the script tells: its status, its text and what went wrong.
+fn told(command: &mut Command) -> (Option<i32>, String, String) {
+    let said = command.output().expect("it runs");
+    let text = String::from_utf8_lossy(&said.stdout).into_owned();
+    let wrong = String::from_utf8_lossy(&said.stderr).into_owned();
+    (said.status.code(), text, wrong)
+}
+
+/// Checks that the script ends with this status and text and nothing goes wrong.
+fn assert_told(folder: &Folder, limit: &str, status: i32, text: &str) {
+    let expected = (Some(status), text.into(), String::new());
+    assert_eq!(told(&mut script(folder, limit)), expected);
+}
+
 #[test]
 #[cfg_attr(not(feature = "proved"), ignore = "needs the proved night program")]
-fn the_script_tells_by_its_status() {
+fn the_script_answers_with_status_0() {
     let policy = NIGHT.as_bytes();
     let folder = Folder::with(policy);
-    let run = |limit: &str| {
-        let said = script(&folder, limit).output().expect("it runs");
-        let text = String::from_utf8_lossy(&said.stdout).into_owned();
-        let wrong = String::from_utf8_lossy(&said.stderr).into_owned();
-        (said.status.code(), text, wrong)
-    };
     let whole = expected(policy, &[], MOST);
-    assert_eq!(run("4096"), (Some(0), whole.text.clone(), String::new()));
+    assert_told(&folder, "4096", 0, &whole.text);
     assert!(folder.kept() == whole.journal);
-    assert_eq!(run("x").0, Some(2));
-    let mut command = script(&folder, "1");
-    let said = command
-        .env("NIGHT_PROGRAM", "/none")
-        .output()
-        .expect("it runs");
-    assert_eq!(said.status.code(), Some(2));
-    let mut command = script(&folder, "1");
-    let said = command
-        .env("NIGHT_PROGRAM", "/bin/false")
-        .output()
-        .expect("it runs");
-    assert_eq!(said.status.code(), Some(2));
+    fs::write(folder.policy(), b"H b\n").expect("a policy");
+    assert_told(&folder, "1", 0, "");
+    say("the script's status 0, with answers and where nothing was asked");
+}
 
-    let lock = folder.0.join("journal.lock");
-    let mut holder = Command::new("flock");
-    holder.arg(&lock).arg("cat");
-    let mut holder = holder
-        .stdin(Stdio::piped())
-        .stdout(Stdio::piped())
-        .spawn()
-        .expect("flock runs");
-    let mut input = holder.stdin.take().expect("a pipe");
+#[test]
+#[cfg_attr(not(feature = "proved"), ignore = "needs the proved night program")]
+fn the_script_refuses_with_status_1() {
+    let folder = Folder::cut_night();
+    let old = folder.kept();
+    fs::write(folder.policy(), b"H b\nQ  b\n").expect("a policy");
+    assert_told(&folder, "1", 1, "refused 2 4\n");
+    assert!(folder.kept() == old);
+    say("the script's status 1, with the refusal");
+}
+
+#[test]
+#[cfg_attr(not(feature = "proved"), ignore = "needs the proved night program")]
+fn the_script_fails_with_status_2() {
+    let folder = Folder::cut_night();
+    let built = program("night");
+    let rows = [
+        (built.as_path(), "x"),
+        (Path::new("/none"), "1"),
+        (Path::new("/bin/false"), "1"),
+    ];
+    for (program, limit) in rows {
+        let mut command = script(&folder, limit);
+        let (status, text, wrong) = told(command.env("NIGHT_PROGRAM", program));
+        assert_eq!((status, text.as_str()), (Some(2), ""));
+        assert!(wrong.starts_with("night: "), "{wrong}");
+    }
+    say("the script's status 2, three times, each with a message and no answer");
+}
+
+/// The script by another name, with these two files.
+fn script_on(script: &Path, policy: &Path, journal: &Path) -> Command {
+    let mut command = Command::new(script);
+    command.arg(policy).arg(journal);
+    command.env("NIGHT_PROGRAM", program("night"));
+    command
+}
+
+#[test]
+#[cfg_attr(not(feature = "proved"), ignore = "needs the proved night program")]
+fn the_script_says_why_there_can_be_no_journal() {
+    let folder = Folder::cut_night();
+    let socket = folder.0.join("socket");
+    let _listener = UnixListener::bind(&socket).expect("a socket");
+    let place = socket.display();
+    let missing = folder.0.join("none/journal");
+    let lock = missing.with_extension("lock");
+    let rows = [
+        (Path::new(""), "the journal's name is empty".to_string()),
+        (
+            &socket,
+            format!("{place} is not a plain file: no journal can stand there"),
+        ),
+        (
+            &missing,
+            format!("cannot open the lock file {}: ", lock.display()),
+        ),
+    ];
+    for (journal, message) in rows {
+        let mut command = script_on(&root().join("bin/night"), &folder.policy(), journal);
+        let (status, text, wrong) = told(&mut command);
+        assert_eq!((status, text.as_str()), (Some(2), ""));
+        assert!(wrong.starts_with(&format!("night: {message}")), "{wrong}");
+    }
+    say("no journal without a name, in a socket's place or in a missing folder");
+}
+
+#[test]
+#[cfg_attr(not(feature = "proved"), ignore = "needs the proved night program")]
+fn the_script_saves_what_does_not_begin_with_a_record() {
+    let folder = Folder::with(NIGHT.as_bytes());
+    let whole = expected(NIGHT.as_bytes(), &[], MOST);
+    for (count, mistaken) in [&b"H b\nQ b\n"[..], b"\0\0\0", b"L"].iter().enumerate() {
+        folder.set(mistaken);
+        let saved = folder.0.join(format!("journal.saved-{}", count + 1));
+        let message = format!(
+            "night: {} does not begin with a record: its bytes are kept in {}\n",
+            folder.journal().display(),
+            saved.display()
+        );
+        let answered = (Some(0), whole.text.clone(), message);
+        assert_eq!(told(&mut script(&folder, "4096")), answered);
+        assert!(fs::read(saved).expect("a copy") == *mistaken);
+        assert!(folder.kept() == whole.journal);
+    }
+    assert_told(&folder, "4096", 0, &whole.text);
+    assert!(!folder.0.join("journal.saved-4").exists());
+    say("three files that are no journal were saved before they were replaced, a journal was not");
+}
+
+#[test]
+#[cfg_attr(not(feature = "proved"), ignore = "needs the proved night program")]
+fn the_script_finds_the_program_through_a_link() {
+    let folder = Folder::with(NIGHT.as_bytes());
+    let link = folder.0.join("tonight");
+    let place = root().join("bin/night").canonicalize().expect("the script");
+    symlink(place, &link).expect("a link");
+    let mut command = script_on(&link, &folder.policy(), &folder.journal());
+    let (status, text, wrong) = told(command.env_remove("NIGHT_PROGRAM"));
+    assert_eq!((status, wrong.as_str()), (Some(0), ""));
+    assert_eq!(text, expected(NIGHT.as_bytes(), &[], MOST).text);
+    say("the script called through a symbolic link");
+}
+
+/// A process that holds the lock until it is waited for.
+fn holder_of(lock: &Path) -> Child {
+    let mut command = Command::new("flock");
+    command.arg(lock).arg("cat");
+    command.stdin(Stdio::piped()).stdout(Stdio::piped());
+    let mut holder = command.spawn().expect("flock runs");
+    let input = holder.stdin.as_mut().expect("a pipe");
     input.write_all(b"x").expect("it takes a byte");
-    let mut byte = [0];
+    let output = holder.stdout.as_mut().expect("a pipe");
+    output.read_exact(&mut [0]).expect("the lock is held");
     holder
-        .stdout
-        .as_mut()
-        .expect("a pipe")
-        .read_exact(&mut byte)
-        .expect("the lock is held");
+}
+
+#[test]
+#[cfg_attr(not(feature = "proved"), ignore = "needs the proved night program")]
+fn the_script_tells_of_a_held_lock_with_status_3() {
+    let folder = Folder::cut_night();
+    let old = folder.kept();
+    let lock = folder.0.join("journal.lock");
+    let mut holder = holder_of(&lock);
     let message = format!(
         "night: another call holds {}: wait for it to end, then call again\n",
         lock.display()
     );
-    assert_eq!(run("1"), (Some(3), String::new(), message));
-    drop(input);
+    let held = (Some(3), String::new(), message);
+    assert_eq!(told(&mut script(&folder, "1")), held);
+    assert!(folder.kept() == old);
     holder.wait().expect("it ends");
-    assert_eq!(run("1"), (Some(0), whole.text.clone(), String::new()));
+    assert_told(&folder, "1", 0, &expected(NIGHT.as_bytes(), &old, 1).text);
+    say("the script's status 3 while the lock is held, and status 0 after that");
+}
 
-    fs::write(folder.policy(), b"H b\nQ  b\n").expect("a policy");
-    assert_eq!(run("1"), (Some(1), "refused 2 4\n".into(), String::new()));
-    fs::write(folder.policy(), b"H b\n").expect("a policy");
-    assert_eq!(run("1"), (Some(0), String::new(), String::new()));
-    say("the script's statuses 0, 1, 2 and 3, each with its text");
+/// Four calls of the script at once, the first of them killed.
+fn four_callers(folder: &Folder, limit: &str) -> Vec<Child> {
+    let start = |_| {
+        let mut command = script(folder, limit);
+        command.stdout(Stdio::piped()).stderr(Stdio::piped());
+        command.spawn().expect("it starts")
+    };
+    let mut children: Vec<Child> = (0..4).map(start).collect();
+    let _ = children[0].kill();
+    children
+}
+
+/// Calls the script until no program of a killed call holds the lock any more.
+fn call_until_free(folder: &Folder) {
+    let start = Instant::now();
+    while told(&mut script(folder, "4096")).0 == Some(3) {
+        let waited = start.elapsed();
+        assert!(waited < Duration::from_secs(9), "the lock is never free");
+    }
 }
 
 #[test]
@@ -701,14 +847,7 @@ fn many_callers_at_once() {
     let limit = (uncut.len() / RECORD / 8).to_string();
     let (mut answered, mut held, mut yes) = (0, 0, 0);
     for _ in 0..8 {
-        let start = |_| {
-            let mut command = script(&folder, &limit);
-            command.stdout(Stdio::piped()).stderr(Stdio::piped());
-            command.spawn().expect("it starts")
-        };
-        let mut children: Vec<Child> = (0..4).map(start).collect();
-        let _ = children[0].kill();
-        for child in children {
+        for child in four_callers(&folder, &limit) {
             let said = child.wait_with_output().expect("it ends");
             yes += yes_on_record(&said.stdout, &policy, &folder.kept());
             match said.status.code() {
@@ -720,19 +859,7 @@ fn many_callers_at_once() {
     }
     let kept = folder.kept();
     assert!(uncut.starts_with(&kept) && kept.len().is_multiple_of(RECORD));
-    let start = Instant::now();
-    while script(&folder, "4096")
-        .output()
-        .expect("it runs")
-        .status
-        .code()
-        == Some(3)
-    {
-        assert!(
-            start.elapsed() < Duration::from_secs(9),
-            "the lock is never free"
-        );
-    }
+    call_until_free(&folder);
     assert!(folder.kept() == uncut);
     say(&format!(
         "32 callers at once, 8 of them killed: {answered} answered, {held} were told to wait; {yes} yes lines printed, 0 without their record"

@@ -7,7 +7,8 @@ use against::made_up;
 use against::rng::Rng;
 use std::thread;
 
-/// What README.md and the header say, and a little for the thread itself.
+/// What README.md and the header promise. The thread's own frames are within it
+/// too, so that the call gets less.
 const STACK_BYTES: usize = 192 * 1024;
 
 #[test]

@@ -26,7 +26,8 @@ use Rattle.ways.specs.declared.Least.{Least}
 use Rattle.ways.specs.declared.Least.the-variants.{By, Missing}
 use Rattle.ways.specs.Search.{leastOf, dueWayIn, nextIn}
 use Rattle.ways.proofs.Firsts.{all-fail, not-passed}
-use Rattle.ways.proofs.Scan.{answer-missing, nextFrom, scan-begins, scan-found, scan-goes-on, scan-over}
+use Rattle.ways.proofs.Rulewise.{answer-missing}
+use Rattle.ways.proofs.Onward.{nextFrom, onward-begins, onward-found, onward-goes-on, onward-over}
 use Rattle.cover.specs.declared.Next.the-variants.{Due, Finished}
 use Rattle.cover.specs.Members.{isIn, withoutMember, LeastIn}
 use Rattle.cover.specs.Touched.{Covers, CoversBut, wantedAll, touching, takingAll}
@@ -167,12 +168,12 @@ module _ (t : List ℕ) (n : ℕ) (marks : List ℕ) where
       (all-fail (λ (way : Way). goodIn t n marks (by g way)) (allWays (numbersFrom 0 n))
       (λ way. not-passed (goodIn t n marks (by g way)) (λ good. false≢true (sym out ∙ covers (by g way) good))))
 
-  scan-to : (cover : List ℕ) → Covers t n marks cover → (f : ℕ) → f ≤ n → ((i : ℕ) → i < f → isIn cover i ≡ false)
+  onward-to : (cover : List ℕ) → Covers t n marks cover → (f : ℕ) → f ≤ n → ((i : ℕ) → i < f → isIn cover i ≡ false)
       → nextIn t n marks ≡ nextFrom t n marks f
-  scan-to cover covers zero within out = scan-begins t n marks
-  scan-to cover covers (suc f) within out =
-      scan-to cover covers f (omega arith) (λ i low. out i (omega arith))
-      ∙ (scan-goes-on t n marks f (omega arith) (not-due cover f covers (out f (omega arith))) refl
+  onward-to cover covers zero within out = onward-begins t n marks
+  onward-to cover covers (suc f) within out =
+      onward-to cover covers f (omega arith) (λ i low. out i (omega arith))
+      ∙ (onward-goes-on t n marks f (omega arith) (not-due cover f covers (out f (omega arith))) refl
       ∙ ap (nextFrom t n marks) (add-one f))
 
   -- The search: the set covers all the time, its least member is at hand, and what comes after it stands as before.
@@ -220,9 +221,9 @@ module _ (t : List ℕ) (n : ℕ) (marks : List ℕ) where
       pub passing-found : {way : Way} → due ≡ By way → Found t n marks cover₀ (Due (by f way)) rest
       unfolding nextOf
       passing-found {way} told =
-          let to = scan-to cover (passing .covers) f (omega arith) (passing .least .before) in
+          let to = onward-to cover (passing .covers) f (omega arith) (passing .least .before) in
           record {
-            is-next = rw (to ∙ scan-found t n marks f low is-due told);
+            is-next = rw (to ∙ onward-found t n marks f low is-due told);
             long = same-long;
             covers = λ q e. let same : by f way ≡ q = cc in subst (λ (g : ℕ). CoversBut t n marks rest g) (ap (λ (p : Record). p .formula) same) covers-rest;
             taken = out-to;
@@ -253,9 +254,9 @@ module _ (t : List ℕ) (n : ℕ) (marks : List ℕ) where
     pub passing-over : n ≤ f → Found t n marks cover₀ Finished cover
     unfolding nextOf
     passing-over high =
-        let to = scan-to cover (passing .covers) n (omega arith) (λ i h. passing .least .before i (omega arith)) in
+        let to = onward-to cover (passing .covers) n (omega arith) (λ i h. passing .least .before i (omega arith)) in
         record {
-          is-next = rw (to ∙ scan-over t n marks n (omega arith));
+          is-next = rw (to ∙ onward-over t n marks n (omega arith));
           long = passing .long;
           covers = λ r e. absurd (let z : _≡_ {A = ℕ} 0 1 = cc in omega arith);
           taken = λ i h. passing .least .before i (omega arith);

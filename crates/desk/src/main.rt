@@ -14,9 +14,8 @@ fn answer(file: &[u8], text: &mut [u8]) -> usize
     ensures { λ r. ⌜ Prints (deskText (now (file .entry))) (now (text .entry)) r (now (text .exit)) ⌝ }
 {
     let mut journal = [0u8; 36864];
-    let mut answers = [255u8; 1024];
-    let report = run::run(file, &mut journal, 0, 4096, &mut answers);
-    printing::print_run(report.code, report.place, &answers, text)
+    let settled = settling::settle(file, &mut journal, 0, 4096, text);
+    settled.length
 }
 
 // One byte more than a policy file may have is read, so that a longer one is seen to be too long.

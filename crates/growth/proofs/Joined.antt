@@ -16,7 +16,7 @@ use Rattle.table.specs.Tests.{Held}
 use Rattle.journal.specs.Kept.{markAll}
 use Rattle.journal.proofs.Holding.{held-more, held-row}
 use Rattle.links.specs.Chains.{Ready}
-use Rattle.ways.proofs.Scan.{next-in}
+use Rattle.ways.proofs.Onward.{next-in}
 use Rattle.growth.specs.declared.Growth.{Growth}
 use Rattle.growth.specs.Grown.{grownIn, Roomy, Grows}
 

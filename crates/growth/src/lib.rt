@@ -10,7 +10,8 @@ pub struct Growth {
     pub finished: bool,
 }
 
-// Adds the next record to the journal, marks it and touches it in the covering set, again and again, until none is next or as many were added as the limit says.
+// Adds the next record to the journal, marks it and widens the covering set by it, again and again, until none is next or as many
+// were added as the limit says.
 pub fn grow(
     table: &[u16],
     links: &[u16],

@@ -82,7 +82,8 @@ whole = rows (r1 ∷ (r2 ∷ (r3 ∷ (r4 ∷ []))))
 unfoldable pub exchanged : List ℕ
 exchanged = rows (r2 ∷ (r1 ∷ (r3 ∷ (r4 ∷ []))))
 
--- The rows that 01 stars, in its order; and three that it names beside them: the two of case 11, and rule 3 under an implication.
+-- The rows that 01 stars, in its order; and four that it names beside them: the two of case 11, rule 3 under an implication, and
+-- the order of weaker prefixes.
 unfoldable pub table : List Row
 table =
     -- 1: the empty file has nothing on its list, and its journal is finished
@@ -115,7 +116,9 @@ table =
     (run-on case2 [] 0 4 whole ∷
     (run-on case2 (take 20 whole) 2 2 whole ∷
     (run-on case2 exchanged 4 0 exchanged ∷
-    (run-on case2 (rows (r4 ∷ [])) 0 4 whole ∷ [])))))))))))))))))))
+    (run-on case2 (rows (r4 ∷ [])) 0 4 whole ∷
+    -- the outermost place weighs most
+    (listed "Q S a S b c\n" ("S a S b c" ∷ ("S a P b c" ∷ ("P a S b c" ∷ ("P a P b c" ∷ [])))) ∷ []))))))))))))))))))))
 
 pub every-row : Each table
 unfolding table outcome filled enough ended rows highFirst whole exchanged Run.answerByte
@@ -155,7 +158,7 @@ every-row = (
                                   (refl, refl),
                                   (
                                     (refl, refl),
-                                    ((refl, refl), ((refl, refl), tt)),
+                                    ((refl, refl), ((refl, refl), (refl, tt))),
                                   ),
                                 ),
                               ),

@@ -8,6 +8,7 @@ pub mod Prefixes
 pub mod Listed
 pub mod Named
 pub mod Locality
+pub mod Local
 pub mod Counting
 pub mod Ascending
 pub mod Least

@@ -11,7 +11,7 @@ use Rattle.infon.specs.Formula.{Quotation, Formula, True, name, and, imp
 use Rattle.infon.specs.Policy.{Line, Sentence, Entry, withEntry, entriesFrom, entriesOf, linesOf, sentenceOf, formulaIn, hypothesesOf}
 use Rattle.infon.specs.Listing.{Prefix, wrap, weakened, weakenedBases, listOf}
 use Rattle.infon.specs.Calculus.{under, Weaker, end, unchanged, lowered, Derives, hypothesis, given, weaken, left, right, both, apply, attach}
-use Rattle.infon.proofs.Rows.{and-true, true-and}
+use Rattle.infon.proofs.Rows.{and-true, true-and, in-three}
 use Rattle.infon.proofs.Prefixes.{mem-weakened}
 use Rattle.infon.proofs.Lines.{line-read}
 use Rattle.infon.proofs.Listed.{unskipped, listOf-only, hypotheses-listed}
@@ -44,20 +44,12 @@ bases-named p True z hp hx m = weakened-named p True z hp hx m
 bases-named p (name a) z hp hx m = weakened-named p (name a) z hp hx m
 bases-named p (and x y) z hp hx m =
     let parts = and-true (isNamed x) (isNamed y) hx in
-    ⊎-elim (λ i. weakened-named p (and x y) z hp hx i)
-    (λ i.
-    ⊎-elim (λ (j : List·Memᴰ z (weakenedBases p x)). bases-named p x z hp (parts .0) j)
-    (λ (j : List·Memᴰ z (weakenedBases p y)). bases-named p y z hp (parts .1) j)
-    (List·Memᴰ·append-cases (weakenedBases p x) i))
-    (List·Memᴰ·append-cases (weakened p (and x y)) m)
+    in-three (weakened p (and x y)) (weakenedBases p x) (weakened-named p (and x y) z hp hx)
+    (bases-named p x z hp (parts .0)) (bases-named p y z hp (parts .1)) m
 bases-named p (implies x y) z hp hx m =
     let parts = and-true (isNamed x) (isNamed y) hx in
-    ⊎-elim (λ i. weakened-named p (implies x y) z hp hx i)
-    (λ i.
-    ⊎-elim (λ (j : List·Memᴰ z (weakenedBases p x)). bases-named p x z hp (parts .0) j)
-    (λ (j : List·Memᴰ z (weakenedBases p y)). bases-named p y z hp (parts .1) j)
-    (List·Memᴰ·append-cases (weakenedBases p x) i))
-    (List·Memᴰ·append-cases (weakened p (implies x y)) m)
+    in-three (weakened p (implies x y)) (weakenedBases p x) (weakened-named p (implies x y) z hp hx)
+    (bases-named p x z hp (parts .0)) (bases-named p y z hp (parts .1)) m
 bases-named p (quoted q x) z hp hx m =
     let parts = and-true (isName (q .principal)) (isNamed x) hx in
     bases-named (q ∷ p) x z (true-and (parts .0) hp) (parts .1) m

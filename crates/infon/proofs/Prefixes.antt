@@ -4,7 +4,7 @@ use Prim.Native.Nat.{ℕ}
 use mathlib.Core.Path.{_≡_, refl, sym, _∙_, ap, subst}
 use mathlib.Core.Logic.{⊎-elim}
 use mathlib.Core.Bool.{true}
-use mathlib.Core.List.{List, [], _∷_, _++_, reverse, reverseAux, List·Memᴰ, List·Memᴰ·head, List·Memᴰ·tail}
+use mathlib.Core.List.{List, [], _∷_, _++_, reverse, reverseAux, reverse-reverse, List·Memᴰ, List·Memᴰ·head, List·Memᴰ·tail}
 use mathlib.Core.List.{List·Memᴰ·not-nil, List·Memᴰ·cases-cons, List·Memᴰ·append-cases, List·Memᴰ·eq-of-singleton}
 use mathlib.Core.List.{Memᴰ·cast, Memᴰ·append-left, Memᴰ·append-right, Memᴰ·map, Memᴰ·of-map}
 use Rattle.infon.specs.Formula.{Told, said, put, Quotation, Formula, True, name, and, implies, quoted, same}
@@ -117,6 +117,9 @@ wrap-under w (q ∷ pref) x = wrap-under (q ∷ w) pref x
 pub under-wrap : (pref : Prefix) (x : Formula) → under pref x ≡ wrap (reverse pref) x
 unfolding wrap
 under-wrap pref x = wrap-under [] pref x
+
+pub wrap-under-reverse : (w : Prefix) (x : Formula) → wrap w x ≡ under (reverse w) x
+wrap-under-reverse w x = sym (under-wrap (reverse w) x ∙ ap (λ (v : Prefix). wrap v x) (reverse-reverse w))
 
 -- every formula is its whole row of quotations over its core
 pub wrap-core : (w : Prefix) (x : Formula) → wrap (prefixUnder w x) (coreOf x) ≡ wrap w x

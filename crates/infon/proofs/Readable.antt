@@ -29,7 +29,7 @@ or-false-left : (a b : Bool) → a || b ≡ false → a ≡ false
 or-false-left true b h = absurd (true≢false h)
 or-false-left false b h = refl
 
-name-lacks : (b : ℕ) (a : List ℕ) → isWordByte b ≡ false → isName a ≡ true → lacks b a ≡ true
+pub name-lacks : (b : ℕ) (a : List ℕ) → isWordByte b ≡ false → isName a ≡ true → lacks b a ≡ true
 unfolding isWordByte isName
 name-lacks b a outside h =
     passed-lacks isNameByte b a (or-false-left (isNameByte b) (not (lacks b (bytes "T+>SP"))) outside)

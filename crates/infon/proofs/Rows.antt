@@ -7,7 +7,7 @@ use mathlib.Core.Path.{_≡_, refl, sym, _∙_, ap, subst}
 use mathlib.Core.Logic.{_⊎_, inl, inr, ⊎-elim}
 use mathlib.Core.Bool.{Bool, true, false, cond, _&&_, _||_, not, false≢true, true≢false}
 use mathlib.Core.Option.{Option, none, some}
-use mathlib.Core.List.{List, [], _∷_, _++_, map, List·Memᴰ, List·Memᴰ·not-nil, List·Memᴰ·cases-cons, Memᴰ·cast}
+use mathlib.Core.List.{List, [], _∷_, _++_, map, List·Memᴰ, List·Memᴰ·not-nil, List·Memᴰ·cases-cons, List·Memᴰ·append-cases, Memᴰ·cast}
 use mathlib.Core.List.{List·Memᴰ·head, List·Memᴰ·tail}
 use mathlib.Core.List
 use lib.Dec.{eqb}
@@ -52,6 +52,12 @@ alike-eq (a ∷ s) (b ∷ t) h =
 pub found-later : {A : Type 0} {P : A → Type 0} {first : A} {xs : List A} → (x : A) × (List·Memᴰ x xs × P x)
     → (x : A) × (List·Memᴰ x (first ∷ xs) × P x)
 found-later found = (found .0, (List·Memᴰ·tail (found .1 .0), found .1 .1))
+
+-- what stands in three rows, one behind the other, stands in one of them
+pub in-three : {A P : Type 0} {x : A} (xs ys : List A) {zs : List A} → (List·Memᴰ x xs → P) → (List·Memᴰ x ys → P)
+    → (List·Memᴰ x zs → P) → List·Memᴰ x (xs ++ (ys ++ zs)) → P
+in-three xs ys first second third m =
+    ⊎-elim first (λ late. ⊎-elim second third (List·Memᴰ·append-cases ys late)) (List·Memᴰ·append-cases xs m)
 
 module _ {A : Type 0} (test : A → Bool) where
   pub someOf-witness : (xs : List A) → someOf test xs ≡ true → (x : A) × (List·Memᴰ x xs × (test x ≡ true))

@@ -4,7 +4,7 @@ use Prim.Native.Nat.{ℕ, suc, _+_, _≤_, _<_}
 use mathlib.Core.Path.{_≡_, refl, sym, _∙_, ap, subst}
 use mathlib.Core.Logic.{_⊎_, inl, inr, ⊎-elim}
 use mathlib.Core.Bool.{Bool, true, false, _&&_, not, false≢true}
-use mathlib.Core.List.{List, [], _∷_, _++_, append-nil, append-assoc, reverse, reverse-reverse, List·Memᴰ, List·Memᴰ·head, List·Memᴰ·tail, List·Memᴰ·not-nil, List·Memᴰ·cases-cons, List·Memᴰ·append-cases, List·Memᴰ·eq-of-singleton, Memᴰ·append-left, Memᴰ·append-right}
+use mathlib.Core.List.{List, [], _∷_, _++_, append-nil, append-assoc, reverse, List·Memᴰ, List·Memᴰ·head, List·Memᴰ·tail, List·Memᴰ·not-nil, List·Memᴰ·cases-cons, List·Memᴰ·append-cases, List·Memᴰ·eq-of-singleton, Memᴰ·append-left, Memᴰ·append-right}
 use lib.ListN.{length}
 use lib.Dec.{ltb, eqb}
 use borrow.Author.Tests.{ltb-true, eqb-true, eq-eqb, not-true}
@@ -18,7 +18,7 @@ use Rattle.infon.specs.Rules.{Shape, truth, primitive, conjunction, impl
 use Rattle.infon.specs.Journal.{isRecorded, premisesIn, isGood}
 use Rattle.infon.proofs.Rows.{and-true, someOf-witness, witness-someOf}
 use Rattle.infon.proofs.Same.{same-eq}
-use Rattle.infon.proofs.Prefixes.{listed-mem, under-wrap, weaker-reverse, shape-truth, shape-conjunction, shape-implication, weakenings-weaker}
+use Rattle.infon.proofs.Prefixes.{listed-mem, wrap-under-reverse, weaker-reverse, shape-truth, shape-conjunction, shape-implication, weakenings-weaker}
 use Rattle.infon.proofs.Listed.{numbered-mem}
 use Rattle.infon.proofs.Least.{PremisesBelow}
 use Rattle.infon.proofs.Grown.{GoodRow, stop, more, good-parts}
@@ -70,10 +70,6 @@ applied-found x y (implication l r) h =
     let parts = and-true (same x l) (same y r) h in
     λ i. implication (sym (same-eq x l (parts .0)) i) (sym (same-eq y r (parts .1)) i)
 
--- the rules of the calculus, with the row of quotations kept innermost first
-wrap-under-reverse : (w : Prefix) (x : Formula) → wrap w x ≡ under (reverse w) x
-wrap-under-reverse w x = sym (under-wrap (reverse w) x ∙ ap (λ (v : Prefix). wrap v x) (reverse-reverse w))
-
 -- the number is that of one of the records
 pub recorded-by : (n : ℕ) (done : List Record) → isRecorded n done ≡ true → (r : Record) × (List·Memᴰ r done × (n ≡ r .formula))
 unfolding isRecorded
@@ -86,6 +82,7 @@ unfolding isRecorded
 by-recorded r done m = witness-someOf (λ (s : Record). eqb (r .formula) (s .formula)) m (eq-eqb (r .formula) (r .formula) refl)
 
 module _ (hyps fs : List Formula) where
+  -- the rules of the calculus, with the row of quotations kept innermost first
   outer : (w : Prefix) (x : Formula) → Derives hyps (wrap w x) → Derives hyps (under (reverse w) x)
   outer w x d = subst (Derives hyps) (wrap-under-reverse w x) d
 

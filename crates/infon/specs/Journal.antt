@@ -18,30 +18,6 @@ use Rattle.infon.specs.Bytes.{someOf, firstOf}
 use Rattle.infon.specs.Formula.{Formula}
 use Rattle.infon.specs.Rules.{numbered, gives}
 
--- the formula's number stands in one of the records
-unfoldable pub isRecorded : ℕ → List Record → Bool
-isRecorded n done = someOf (λ (r : Record). eqb n (r .formula)) done
-
--- "each premise that the rule has is recorded earlier"; "A premise is given by its formula's number on the list, not by the place
--- of its record."
-unfoldable pub premisesIn : Way → List Record → Bool
-premisesIn Hypothesis done = true
-premisesIn Given done = true
-premisesIn (Weaken p) done = isRecorded p done
-premisesIn (Left p) done = isRecorded p done
-premisesIn (Right p) done = isRecorded p done
-premisesIn (Both p q) done = isRecorded p done && isRecorded q done
-premisesIn (Apply p q) done = isRecorded p done && isRecorded q done
-premisesIn (Attach p) done = isRecorded p done
-
--- "A record is good after given records if .. its formula's number is below L and not recorded before, each premise that the
--- rule has is recorded earlier, .. and the rule gives that formula from them." The mark, the rule's number and the premises
--- that it lacks are the decoder's, below.
-unfoldable pub isGood : List Formula → List Formula → List Record → Record → Bool
-isGood hyps fs done r =
-    ltb (r .formula) (length fs) && not (isRecorded (r .formula) done) && premisesIn (r .way) done
-    && gives hyps fs (r .way) (numbered fs (r .formula))
-
 -- "Nine bytes a record, high byte first: the mark 4C 51, the rule (one byte), the formula's number, first premise, second
 -- premise (two bytes each). .. FF FF stands for no premise."
 unfoldable pub recordBytes : ℕ
@@ -128,6 +104,30 @@ decoded s =
     cond (eqb (getD s 0 0) markHigh && eqb (getD s 1 0) markLow)
     (recordFor (numberAt s 3) (wayOf (getD s 2 0) (numberAt s 5) (numberAt s 7)))
     none
+
+-- the formula's number stands in one of the records
+unfoldable pub isRecorded : ℕ → List Record → Bool
+isRecorded n done = someOf (λ (r : Record). eqb n (r .formula)) done
+
+-- "each premise that the rule has is recorded earlier"; "A premise is given by its formula's number on the list, not by the place
+-- of its record."
+unfoldable pub premisesIn : Way → List Record → Bool
+premisesIn Hypothesis done = true
+premisesIn Given done = true
+premisesIn (Weaken p) done = isRecorded p done
+premisesIn (Left p) done = isRecorded p done
+premisesIn (Right p) done = isRecorded p done
+premisesIn (Both p q) done = isRecorded p done && isRecorded q done
+premisesIn (Apply p q) done = isRecorded p done && isRecorded q done
+premisesIn (Attach p) done = isRecorded p done
+
+-- "A record is good after given records if .. its formula's number is below L and not recorded before, each premise that the
+-- rule has is recorded earlier, .. and the rule gives that formula from them." The mark, the rule's number and the premises
+-- that it lacks are the decoder's, above.
+unfoldable pub isGood : List Formula → List Formula → List Record → Record → Bool
+isGood hyps fs done r =
+    ltb (r .formula) (length fs) && not (isRecorded (r .formula) done) && premisesIn (r .way) done
+    && gives hyps fs (r .way) (numbered fs (r .formula))
 
 -- "A reader goes through the journal record by record": the whole nine-byte records in front of a row of bytes
 unfoldable pub wholeRecords : ℕ → List ℕ → List (List ℕ)

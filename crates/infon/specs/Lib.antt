@@ -4,6 +4,7 @@ pub mod Formula
 pub mod Policy
 pub mod Listing
 pub mod Calculus
+pub mod Local
 pub mod Rules
 pub mod Journal
 pub mod Run

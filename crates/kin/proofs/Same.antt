@@ -8,7 +8,7 @@ use mathlib.Core.Path.{_≡_, refl, sym, _∙_, ap, ap₂, subst}
 use mathlib.Core.Logic.{⊎-elim}
 use mathlib.Core.Bool.{Bool, true, false, _&&_, true≢false, false≢true}
 use mathlib.Core.List.{List, [], _∷_}
-use lib.ListN.{length, getD, take, drop}
+use lib.ListN.{length, getD}
 use lib.Dec.{ltb}
 use borrow.Author.Tests.{ltb-true, ltb-false}
 use Rattle.infon.specs.Bytes.{alike}
@@ -24,8 +24,8 @@ use Rattle.nodes.proofs.Every.{node-named}
 use Rattle.prefix.specs.Places.{Sized, used, EachPlace, prefixAt}
 use Rattle.prefix.specs.Held.{NodesHeld}
 use Rattle.prefix.proofs.Shown.{prefix-sized, depth-cell}
-use Rattle.kin.specs.Kin.{samePrincipals, akinNodes, firstFrom, kinOf, textLength, samePlaces, Quoting}
-use Rattle.kin.proofs.Texts.{text-length, text-stands, prefixes-same, all-quoting}
+use Rattle.kin.specs.Kin.{samePrincipals, akinNodes, firstFrom, kinOf, samePlaces, Quoting}
+use Rattle.kin.proofs.Texts.{prefixes-same, all-quoting}
 
 -- Same principals: the same prefix, once put stands at every place.
 pub principals-eq : (v w : Prefix) → samePrincipals v w ≡ true → allPut v ≡ allPut w
@@ -80,9 +80,6 @@ module _ (n o : Node) where
       unless (akinNodes n o)
       (λ h. apart (principals-length (n .pre) (o .pre) (and-true (same (n .what) (o .what)) (samePrincipals (n .pre) (o .pre)) h .1)))
 
-  unlike-texts : (length (spelling (n .what)) ≡ length (spelling (o .what)) → ⊥) → akinNodes n o ≡ false
-  unlike-texts apart = unless (akinNodes n o) (λ h. apart (ap (λ (x : Formula). length (spelling x)) (akin-eq h .0)))
-
   akin-spelled : isNamed (n .what) ≡ true → isNamed (o .what) ≡ true
       → akinNodes n o ≡ alike (spelling (n .what)) (spelling (o .what)) && samePrincipals (n .pre) (o .pre)
   unfolding akinNodes
@@ -105,42 +102,19 @@ module _ (file t : List ℕ) (held : NodesHeld file t) (i j : ℕ) (hi : i < cou
   pub depths-apart : (getD t (6144 + i) 0 ≡ getD t (6144 + j) 0 → ⊥) → akinNodes n o ≡ false
   depths-apart apart = unlike-depths n o (λ e. apart (depth-cell file t held i hi ∙ e ∙ sym (depth-cell file t held j hj)))
 
-  pub lengths-apart : (textLength t i ≡ textLength t j → ⊥) → akinNodes n o ≡ false
-  lengths-apart apart = unlike-texts n o (λ e. apart (text-length file t held i hi ∙ e ∙ sym (text-length file t held j hj)))
-
-  -- the bytes at both places, once they are equally many
-  texts-at : textLength t i ≡ textLength t j
-      → alike (take (textLength t i) (drop (getD t (1024 + i) 0) file)) (take (textLength t i) (drop (getD t (1024 + j) 0) file))
-      ≡ alike (spelling (n .what)) (spelling (o .what))
-  texts-at e =
-      ap₂ alike
-      (ap (λ (m : ℕ). take m (drop (getD t (1024 + i) 0) file)) (text-length file t held i hi) ∙ text-stands file t held i hi)
-      (ap (λ (m : ℕ). take m (drop (getD t (1024 + j) 0) file)) (e ∙ text-length file t held j hj) ∙ text-stands file t held j hj)
-
   named-akin : akinNodes n o ≡ alike (spelling (n .what)) (spelling (o .what)) && samePrincipals (n .pre) (o .pre)
   named-akin = akin-spelled n o (node-named file i hi) (node-named file j hj)
 
-  texts-apart : alike (spelling (n .what)) (spelling (o .what)) ≡ false → akinNodes n o ≡ false
-  texts-apart e = named-akin ∙ ap (λ (b : Bool). b && samePrincipals (n .pre) (o .pre)) e
+  -- the same as the code has it: the comparison of both texts that came back
+  module _ (mine others : List ℕ) (equal : Bool) (e : mine ≡ spelling (n .what)) (f : others ≡ spelling (o .what)) (compared : equal ≡ alike mine others) where
+    texts-compared : akinNodes n o ≡ equal && samePrincipals (n .pre) (o .pre)
+    texts-compared = named-akin ∙ ap (λ (b : Bool). b && samePrincipals (n .pre) (o .pre)) (sym (compared ∙ ap₂ alike e f))
 
-  texts-alike : alike (spelling (n .what)) (spelling (o .what)) ≡ true
-      → akinNodes n o ≡ samePlaces file t (used (prefixAt t i)) (used (prefixAt t j))
-  texts-alike e = named-akin ∙ ap (λ (b : Bool). b && samePrincipals (n .pre) (o .pre)) e ∙ sym (prefixes-same file t held i j hi hj)
+    pub texts-fail : equal ≡ false → akinNodes n o ≡ false
+    texts-fail h = texts-compared ∙ ap (λ (b : Bool). b && samePrincipals (n .pre) (o .pre)) h
 
-  -- the same as the code has it: lengths and a comparison that came back
-  module _ (mine others : ℕ) (same : Bool) (e : mine ≡ textLength t i) (f : others ≡ textLength t j) (equal : mine ≡ others)
-      (compared : same ≡ alike (take mine (drop (getD t (1024 + i) 0) file)) (take mine (drop (getD t (1024 + j) 0) file))) where
-    compared-texts : same ≡ alike (spelling (n .what)) (spelling (o .what))
-    compared-texts =
-        compared
-        ∙ ap (λ (m : ℕ). alike (take m (drop (getD t (1024 + i) 0) file)) (take m (drop (getD t (1024 + j) 0) file))) e
-        ∙ texts-at (sym e ∙ equal ∙ f)
-
-    pub texts-fail : same ≡ false → akinNodes n o ≡ false
-    texts-fail h = texts-apart (sym compared-texts ∙ h)
-
-    pub texts-pass : same ≡ true → akinNodes n o ≡ samePlaces file t (used (prefixAt t i)) (used (prefixAt t j))
-    texts-pass h = texts-alike (sym compared-texts ∙ h)
+    pub texts-pass : equal ≡ true → akinNodes n o ≡ samePlaces file t (used (prefixAt t i)) (used (prefixAt t j))
+    texts-pass h = texts-compared ∙ ap (λ (b : Bool). b && samePrincipals (n .pre) (o .pre)) h ∙ sym (prefixes-same file t held i j hi hj)
 
   -- what the comparison of the principals asks
   pub places-asked : getD t (6144 + i) 0 ≡ getD t (6144 + j) 0

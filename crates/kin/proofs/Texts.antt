@@ -12,15 +12,17 @@ use Rattle.infon.specs.Bytes.{bytes, space, alike, every}
 use Rattle.infon.specs.Formula.{Quotation, Formula, True, name, and, implies, quoted, letterOf, spelling, nodes, isNameByte, isName, isNamed, words, joined}
 use Rattle.infon.proofs.Rows.{and-true}
 use Rattle.infon.proofs.Readable.{letter-length}
+use Rattle.spelling.proofs.Tokenised.{name-token}
+use Rattle.spelling.specs.Token.{isBreak}
 use Rattle.nodes.specs.Nodes.{Node, part, inner, nodeAt, countNodes, ownBytes, nodesOf}
 use Rattle.nodes.proofs.Order.{node-within, and-right, implies-right, quoted-inner, nodes-positive}
 use Rattle.nodes.proofs.Every.{node-named}
-use Rattle.nodes.proofs.Spelled.{Stands, stands-front, stands-back, stands-take, stands-within, and-spelled, implies-spelled, quoted-spelled, node-stands, node-text}
+use Rattle.nodes.proofs.Spelled.{Stands, stands-back, stands-within, and-spelled, implies-spelled, quoted-spelled, node-stands, node-text}
 use Rattle.prefix.specs.declared.Place.{Place}
 use Rattle.prefix.specs.Places.{used, EachPlace, prefixAt}
 use Rattle.prefix.specs.Held.{NodesHeld}
 use Rattle.prefix.proofs.Shown.{principalOf, shown, quotationOf, prefix-shown, places-quoted, count-few, table-long, place-cell, own-cell, end-cell}
-use Rattle.kin.specs.Kin.{samePrincipals, textLength, principalText, samePlaces, Quoting}
+use Rattle.kin.specs.Kin.{samePrincipals, principalText, samePlaces, Quoting}
 
 two-length : (letter : List ℕ) (x y : Formula) → length letter ≡ 1
     → length (letter ++ (space ∷ (spelling x ++ (space ∷ spelling y)))) ≡ 3 + length (spelling x) + length (spelling y)
@@ -135,18 +137,17 @@ module _ (file t : List ℕ) (held : NodesHeld file t) where
         rw (end-cell file t held i h, place-cell file t held (i + nodes x - 1) last-below, own-cell file t held (i + nodes x - 1) last-below, place-cell file t held i h)
         (last-ends (nodesOf file) x i h refl)
 
-    pub text-length : textLength t i ≡ length (spelling x)
-    unfolding textLength
-    text-length = omega (arith, end-place)
-
     pub text-inside : getD t (1024 + i) 0 + length (spelling x) ≤ length file
     text-inside =
         rw (place-cell file t held i h)
         (stands-within file (nodeAt (nodesOf file) i .place) (spelling x) (node-stands file (held .formed) i h)
         (spelling-positive x (node-named file i h)))
 
-    pub text-stands : take (length (spelling x)) (drop (getD t (1024 + i) 0) file) ≡ spelling x
-    text-stands = rw (place-cell file t held i h) (node-text file (held .formed) i h)
+    -- the part of the file from the formula's first byte to the last node's end
+    pub text-part : (start end : ℕ) → start ≡ getD t (1024 + i) 0 → end ≡ start + length (spelling x) → take (end - start) (drop start file) ≡ spelling x
+    text-part start end e f =
+        let n : end - start ≡ length (spelling x) = omega arith in
+        rw (n, e, place-cell file t held i h) (node-text file (held .formed) i h)
 
   -- A quotation node's principal stands two bytes behind its place.
   module _ (a : ℕ) (h : a < countNodes (nodesOf file)) (q : Quotation) (x : Formula) (e : nodeAt (nodesOf file) a .what ≡ quoted q x) where
@@ -157,32 +158,28 @@ module _ (file t : List ℕ) (held : NodesHeld file t) where
         ∙ sym (append-assoc (letterOf (q .told)) (space ∷ []) (q .principal ++ (space ∷ spelling x))))
         (node-stands file (held .formed) a h)
 
-    principal-stands : Stands file (nodeAt (nodesOf file) a .place + 2) (q .principal)
+    principal-stands : Stands file (nodeAt (nodesOf file) a .place + 2) (q .principal ++ (space ∷ spelling x))
     principal-stands =
-        stands-front file (nodeAt (nodesOf file) a .place + 2) (q .principal) (space ∷ spelling x)
-        (stands-back file (nodeAt (nodesOf file) a .place) (letterOf (q .told) ++ (space ∷ [])) (q .principal ++ (space ∷ spelling x)) quoted-stands
-        (nodeAt (nodesOf file) a .place + 2) (omega (arith, length-append (letterOf (q .told)) (space ∷ []), letter-length (q .told))))
+        stands-back file (nodeAt (nodesOf file) a .place) (letterOf (q .told) ++ (space ∷ [])) (q .principal ++ (space ∷ spelling x)) quoted-stands
+        (nodeAt (nodesOf file) a .place + 2) (omega (arith, length-append (letterOf (q .told)) (space ∷ []), letter-length (q .told)))
 
-    own-quoted : getD t (2048 + a) 0 ≡ 2 + length (q .principal)
-    unfolding ownBytes
-    own-quoted = own-cell file t held a h ∙ ap ownBytes e
+    principal-named : isName (q .principal) ≡ true
+    unfolding isNamed
+    principal-named = and-true (isName (q .principal)) (isNamed x) (sym (ap isNamed e) ∙ node-named file a h) .0
 
     pub principal-text : principalText file t a ≡ principalOf (nodeAt (nodesOf file) a .what)
-    unfolding principalText principalOf
+    unfolding principalText principalOf isBreak space
     principal-text =
-        let behind : getD t (2048 + a) 0 - 2 ≡ length (q .principal) = omega (arith, own-quoted) in
-        rw (e, behind, place-cell file t held a h)
-        (stands-take file (nodeAt (nodesOf file) a .place + 2) (q .principal) principal-stands)
+        rw (e, place-cell file t held a h)
+        (name-token file (nodeAt (nodesOf file) a .place + 2) (q .principal) space (spelling x ++ principal-stands .0) principal-named refl
+        (principal-stands .1 ∙ append-assoc (q .principal) (space ∷ spelling x) (principal-stands .0)))
 
     pub quoting : Quoting file t a
     quoting =
         record {
           long = omega (arith, table-long file t held);
           row = omega (arith, count-few file t held);
-          letter = omega (arith, own-quoted);
-          inside =
-              omega
-              (arith, own-quoted, text-inside a h, quoted-length q x, ap (λ (y : Formula). length (spelling y)) e);
+          inside = omega (arith, text-inside a h, quoted-length q x, ap (λ (y : Formula). length (spelling y)) e);
         }
 
 -- Places that show quotation nodes have the principals that the file shows.

@@ -1,15 +1,15 @@
 -- Nodes that are akin: the same formula begins there, under the same principals. Their bases have the same weaker forms but for
 -- the kinds of the places.
-use Prim.Native.Nat.{ℕ, zero, suc, _+_, _-_, _≤_, _<_}
+use Prim.Native.Nat.{ℕ, zero, suc, _+_, _≤_, _<_}
 use mathlib.Core.Bool.{Bool, true, false, cond, _&&_}
 use mathlib.Core.List.{List, [], _∷_}
-use lib.ListN.{length, getD, take, drop}
+use lib.ListN.{length, getD}
 use Rattle.infon.specs.Bytes.{alike}
 use Rattle.infon.specs.Formula.{same}
 use Rattle.infon.specs.Listing.{Prefix}
-use Rattle.nodes.specs.Nodes.{Node, nodeAt, countNodes, nodesOf}
+use Rattle.nodes.specs.Nodes.{Node, nodeAt}
 use Rattle.prefix.specs.declared.Place.{Place}
-use Rattle.prefix.specs.Held.{NodesHeld}
+use Rattle.spelling.specs.Token.{wordAt}
 
 unfoldable pub samePrincipals : Prefix → Prefix → Bool
 samePrincipals [] [] = true
@@ -31,15 +31,9 @@ firstFrom test j (suc k) =
 unfoldable pub kinOf : List Node → ℕ → ℕ
 kinOf row i = firstFrom (λ (j : ℕ). akinNodes (nodeAt row i) (nodeAt row j)) 0 i
 
--- how many bytes the formula has that begins at node i: from its first byte to behind its last node's own bytes
-unfoldable pub textLength : List ℕ → ℕ → ℕ
-textLength t i =
-    let last = getD t (3072 + i) 0 - 1 in
-    getD t (1024 + last) 0 + getD t (2048 + last) 0 - getD t (1024 + i) 0
-
--- the principal of a quotation node, as it stands in the file: behind its letter and a space
+-- the principal of a quotation node, as it stands in the file: the token behind its letter and a space
 unfoldable pub principalText : List ℕ → List ℕ → ℕ → List ℕ
-principalText file t a = take (getD t (2048 + a) 0 - 2) (drop (getD t (1024 + a) 0 + 2) file)
+principalText file t a = wordAt file (getD t (1024 + a) 0 + 2)
 
 unfoldable pub samePlaces : List ℕ → List ℕ → List Place → List Place → Bool
 samePlaces file t [] [] = true
@@ -48,13 +42,8 @@ samePlaces file t (a ∷ ps) [] = false
 samePlaces file t (a ∷ ps) (b ∷ qs) =
     alike (principalText file t (a .node)) (principalText file t (b .node)) && samePlaces file t ps qs
 
--- node i of some file whose node table this is
-abbrev pub IsNode : List ℕ → ℕ → Type 0
-IsNode t i = (file : List ℕ) × (NodesHeld file t × (i < countNodes (nodesOf file)))
-
 -- a quotation node whose principal stands inside the file
 pub record Quoting (file t : List ℕ) (a : ℕ) : Type 0 where
-  pub long : 3072 ≤ length t
+  pub long : 2048 ≤ length t
   pub row : a < 1024
-  pub letter : 2 ≤ getD t (2048 + a) 0
-  pub inside : getD t (1024 + a) 0 + getD t (2048 + a) 0 ≤ length file
+  pub inside : getD t (1024 + a) 0 + 2 ≤ length file

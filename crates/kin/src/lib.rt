@@ -2,13 +2,13 @@
 // here and nowhere else on the way to the list.
 use prefix::Prefix;
 ghost use mathlib.Core.Path.{_≡_};
-ghost use Prim.Native.Nat.{_+_, _<_, _≤_};
-ghost use lib.ListN.{length, take, drop};
+ghost use Prim.Native.Nat.{_<_};
 ghost use Rattle.infon.specs.Bytes.{alike};
+ghost use Rattle.infon.specs.Formula.{spelling};
 ghost use Rattle.nodes.specs.Nodes.{nodeAt, countNodes, nodesOf};
 ghost use Rattle.prefix.specs.Places.{Sized, used, EachPlace};
 ghost use Rattle.prefix.specs.Held.{NodesHeld};
-ghost use Rattle.kin.specs.Kin.{akinNodes, kinOf, textLength, principalText, samePlaces, IsNode, Quoting};
+ghost use Rattle.kin.specs.Kin.{akinNodes, kinOf, principalText, samePlaces, Quoting};
 
 // Where the node table's columns begin: a node's first byte,
 const PLACE: usize = 1024;
@@ -22,28 +22,24 @@ const END: usize = 3072;
 // and how many quotations are above it.
 const DEPTH: usize = 6144;
 
-// Whether the n bytes at a are those at b.
-fn same_bytes(file: &[u8], a: usize, b: usize, n: usize) -> bool
-    requires { ⌜ (a + n ≤ length (now file)) × (b + n ≤ length (now file)) ⌝ }
-    ensures { λ r. ⌜ r ≡ alike (take n (drop a (now (file .entry)))) (take n (drop b (now (file .entry)))) ⌝ }
-{
-    let mut k = 0;
-    while k < n {
-        if file[a + k] != file[b + k] {
-            return false;
-        }
-        k += 1;
-    }
-    true
-}
-
-// How many bytes the formula at node i has.
-fn text_length(nodes: &[u16], i: usize) -> usize
-    requires { ⌜ IsNode (now nodes) i ⌝ }
-    ensures { λ r. ⌜ r ≡ textLength (now (nodes .entry)) i ⌝ }
+// The formula that begins at node i, as the part of the file it stands on.
+fn text_of<'a>(file: &'a [u8], nodes: &[u16], i: usize) -> &'a [u8]
+    requires { ⌜ NodesHeld (now file) (now nodes) × (i < countNodes (nodesOf (now file))) ⌝ }
+    ensures { λ r. ⌜ now r ≡ spelling (nodeAt (nodesOf (now (file .entry))) i .what) ⌝ }
 {
     let last = nodes[END + i] as usize - 1;
-    nodes[PLACE + last] as usize + nodes[OWN + last] as usize - nodes[PLACE + i] as usize
+    let start = nodes[PLACE + i] as usize;
+    let end = nodes[PLACE + last] as usize + nodes[OWN + last] as usize;
+    &file[start..end]
+}
+
+// The principal of a quotation node: the token behind its letter and a space.
+fn principal_of<'a>(file: &'a [u8], nodes: &[u16], a: usize) -> &'a [u8]
+    requires { ⌜ Quoting (now file) (now nodes) a ⌝ }
+    ensures { λ r. ⌜ now r ≡ principalText (now (file .entry)) (now (nodes .entry)) a ⌝ }
+{
+    let start = nodes[PLACE + a] as usize + 2;
+    spelling::word(file, start)
 }
 
 // Whether two quotation nodes have the same principal.
@@ -51,14 +47,9 @@ fn same_principal(file: &[u8], nodes: &[u16], a: usize, b: usize) -> bool
     requires { ⌜ Quoting (now file) (now nodes) a × Quoting (now file) (now nodes) b ⌝ }
     ensures { λ r. ⌜ r ≡ alike (principalText (now (file .entry)) (now (nodes .entry)) a) (principalText (now (file .entry)) (now (nodes .entry)) b) ⌝ }
 {
-    let own = nodes[OWN + a] as usize;
-    let other = nodes[OWN + b] as usize;
-    if own != other {
-        return false;
-    }
-    let at = nodes[PLACE + a] as usize + 2;
-    let there = nodes[PLACE + b] as usize + 2;
-    same_bytes(file, at, there, own - 2)
+    let mine = principal_of(file, nodes, a);
+    let other = principal_of(file, nodes, b);
+    spelling::are_alike(mine, other)
 }
 
 // Whether two prefixes of one length have the same principals, place by place.
@@ -89,14 +80,9 @@ fn akin(file: &[u8], nodes: &[u16], i: usize, j: usize) -> bool
     if nodes[DEPTH + i] != nodes[DEPTH + j] {
         return false;
     }
-    let n = text_length(nodes, i);
-    let m = text_length(nodes, j);
-    if n != m {
-        return false;
-    }
-    let at = nodes[PLACE + i] as usize;
-    let there = nodes[PLACE + j] as usize;
-    if !same_bytes(file, at, there, n) {
+    let mine = text_of(file, nodes, i);
+    let other = text_of(file, nodes, j);
+    if !spelling::are_alike(mine, other) {
         return false;
     }
     let p = prefix::prefix_of(nodes, i);

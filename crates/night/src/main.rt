@@ -5,53 +5,16 @@ use input::Got;
 use libc::STDERR_FILENO;
 use libc::STDOUT_FILENO;
 use printing::Number;
-ghost use mathlib.Core.Path.{_≡_};
-ghost use Prim.Native.Nat.{_+_, _≤_};
-ghost use mathlib.Core.List.{_++_};
+ghost use Prim.Native.Nat.{_≤_};
 ghost use lib.ListN.{length};
-ghost use Rattle.io.specs.Counts.{Counts};
 ghost use Rattle.input.specs.Read.{Holds};
-ghost use Rattle.printing.specs.Placed.{Prints};
-ghost use Rattle.night.specs.Night.{Settles, folderLength};
-
-// What a call came to: its code, the journal's new used length, and the length of the text to print.
-struct Settlement {
-    code: usize,
-    used: usize,
-    length: usize,
-}
-
-// Runs the policy file on the journal's used bytes with the limit, leaves the new journal in its buffer, and puts what is to be
-// printed into text.
-fn answer(file: &[u8], journal: &mut [u8], used: usize, limit: usize, text: &mut [u8]) -> Settlement
-    requires { ⌜ (used ≤ length (now journal)) × (32768 ≤ length (now text)) ⌝ }
-    ensures { λ r. ⌜ Settles (now (file .entry)) (now (journal .entry)) used limit (now (text .entry)) r (now (journal .exit)) (now (text .exit)) ⌝ }
-{
-    let mut answers = [255u8; 1024];
-    let report = run::run(file, journal, used, limit, &mut answers);
-    let length = printing::print_run(report.code, report.place, &answers, text);
-    Settlement {
-        code: report.code,
-        used: report.used,
-        length,
-    }
-}
-
-// Puts two texts one after the other, and returns the length of both.
-fn join(first: &[u8], second: &[u8], out: &mut [u8]) -> usize
-    requires { ⌜ length (now first) + length (now second) ≤ length (now out) ⌝ }
-    ensures { λ r. ⌜ Prints (now (first .entry) ++ now (second .entry)) (now (out .entry)) r (now (out .exit)) ⌝ }
-{
-    let n = printing::put(first, out, 0);
-    printing::put(second, out, n)
-}
 
 // Says on standard error what failed, on which file and why.
 fn complain(what: &[u8], path: &[u8])
     requires { ⌜ (length (now what) ≤ 64) × (length (now path) ≤ 4100) ⌝ }
 {
     let mut message = [0u8; 4164];
-    let n = join(what, path, &mut message);
+    let n = printing::join(what, path, &mut message);
     os::fail(&message[..n]);
 }
 
@@ -142,7 +105,7 @@ fn replace(journal: &[u8], records: &[u8]) -> bool
     requires { ⌜ length (now journal) ≤ 4096 ⌝ }
 {
     let mut name = [0u8; 4100];
-    let n = join(journal, b".new", &mut name);
+    let n = printing::join(journal, b".new", &mut name);
     if !write_new(&name[..n], records) {
         os::unlink(&name[..n]);
         return false;
@@ -171,36 +134,25 @@ fn keep_in(folder: &[u8], journal: &[u8], records: &[u8]) -> bool
     force(fd, folder)
 }
 
-// How long the name of the folder is in a path, with its last slash; 0 where the path has none.
-fn folder_length(path: &[u8]) -> usize
-    ensures { λ r. ⌜ (r ≡ folderLength (now (path .entry))) × Counts r (now (path .entry)) ⌝ }
-{
-    let mut n = path.len();
-    while 0 < n {
-        if path[n - 1] == b'/' {
-            return n;
-        }
-        n -= 1;
-    }
-    0
-}
-
 // Keeps the records in the journal file, on the disk; says whether that was done.
 fn keep(journal: &[u8], records: &[u8]) -> bool
     requires { ⌜ length (now journal) ≤ 4096 ⌝ }
 {
-    let n = folder_length(journal);
+    let n = settling::folder_length(journal);
     if n == 0 {
         return keep_in(b".", journal, records);
     }
     keep_in(&journal[..n], journal, records)
 }
 
-// Says that the journal file cannot be one.
+// Says that the journal file cannot be one, and what to do: a run makes all of its records anew.
 fn say_too_long(journal: &[u8]) {
-    io::write_all(STDERR_FILENO, b"night: more than 36864 bytes in ");
+    io::write_all(
+        STDERR_FILENO,
+        b"night: more than 36864 bytes, which no journal has, in ",
+    );
     io::write_all(STDERR_FILENO, journal);
-    io::write_all(STDERR_FILENO, b"\n");
+    io::write_all(STDERR_FILENO, b": move it away and call again\n");
 }
 
 // Answers from the two files. One byte more than each may have is read, so that a longer one is seen to be too long.
@@ -222,7 +174,7 @@ fn night(policy: &[u8], journal: &[u8], limit: usize)
         return;
     }
     let mut text = [0u8; 32768];
-    let settled = answer(&file[..n], &mut records, before, limit, &mut text);
+    let settled = settling::settle(&file[..n], &mut records, before, limit, &mut text);
     let used = settled.used;
     let length = settled.length;
     if settled.code == 0 {
@@ -245,6 +197,7 @@ fn read_limit() -> Number {
     printing::read_number(&text[..n])
 }
 
+// Takes the names of the two files and the limit, and answers.
 fn main() {
     let count = os::arg_count();
     if count < 3 || 4 < count {

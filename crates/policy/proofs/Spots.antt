@@ -19,7 +19,7 @@ use Rattle.infon.specs.Formula.{Told, said, put, Formula, True, name, and, impl
 use Rattle.infon.specs.Policy.{entriesOf, passed, refused, when, code2, mostNodes, code3}
 use Rattle.infon.proofs.Rows.{and-true, true-and}
 use Rattle.infon.proofs.Words.{lacks}
-use Rattle.infon.proofs.Readable.{isWordByte, words-lack, unlike-name}
+use Rattle.infon.proofs.Readable.{unlike-name}
 use Rattle.nodes.specs.Nodes.{Node, after, nodeAt, countNodes, ownBytes, nodesOf}
 use Rattle.nodes.proofs.Order.{node-first, node-step, after-none}
 use Rattle.nodes.proofs.Every.{node-named}
@@ -30,7 +30,7 @@ use Rattle.spelling.specs.declared.Parsed.the-variants.{True as aTrue, Name as 
 use Rattle.spelling.specs.Token.{isBreak, wordAt}
 use Rattle.spelling.specs.Parsing.{quotationAt, parsedAt}
 use Rattle.spelling.proofs.Parses.{with-principal, parses-true, parses-and, parses-implies, parses-said, parses-put, parses-name}
-use Rattle.spelling.proofs.Tokenised.{or-false-both, token-cut}
+use Rattle.spelling.proofs.Tokenised.{or-false-both, token-cut, name-token}
 use Rattle.policy.specs.declared.walk.Spot.{Spot}
 use Rattle.policy.specs.Walking.{behindOwn, nextSpot}
 
@@ -55,16 +55,7 @@ parsedOf at (and x y) = anAnd
 parsedOf at (implies x y) = anImplies
 parsedOf at (quoted q x) = aQuoted (isSaid (q .told)) (at + 1 + 1) (at + 1 + 1 + length (q .principal))
 
-name-lacks : (b : ℕ) (a : List ℕ) → isWordByte b ≡ false → isName a ≡ true → lacks b a ≡ true
-unfolding words isNamed every
-name-lacks b a outside named = and-true (lacks b a) true (words-lack b (name a) outside named) .0
-
 module _ (file : List ℕ) (at : ℕ) where
-  -- a name's token, or a letter's
-  name-token : (a : List ℕ) (b : ℕ) (rest : List ℕ) → isName a ≡ true → isBreak b ≡ true → drop at file ≡ a ++ (b ∷ rest) → wordAt file at ≡ a
-  unfolding isWordByte isNameByte bytes lacks every space lineFeed
-  name-token a b rest named broken h = token-cut file at a b rest h (name-lacks space a refl named) (name-lacks lineFeed a refl named) broken
-
   letter-token : (letter : ℕ) (b : ℕ) (rest : List ℕ) → isBreak letter ≡ false → isBreak b ≡ true → drop at file ≡ letter ∷ (b ∷ rest)
       → wordAt file at ≡ letter ∷ []
   unfolding isBreak lacks every

@@ -25,7 +25,7 @@ unfoldable pub choose : Prefix → ℕ → Prefix
 choose [] m = []
 choose (q ∷ outer) m = record { told = loweredTold (q .told) m; principal = q .principal } ∷ choose outer (laterBits (isSaid (q .told)) m)
 
--- One quotation further in: "a said step doubles the number, a put step keeps it".
+-- One quotation further in, a said place doubles the number and a put place keeps it.
 unfoldable pub inwards : Told → ℕ → ℕ
 inwards said m = 2 * m
 inwards put m = m

@@ -1,6 +1,7 @@
-// What the programs print and read, on slices: the text of answers and of a refusal, and a number in decimal.
+// What the programs print and read, on slices: the text of answers and of a refusal, two texts joined, and a number in decimal.
 ghost use mathlib.Core.Path.{_≡_};
 ghost use Prim.Native.Nat.{_+_, _*_, _≤_};
+ghost use mathlib.Core.List.{_++_};
 ghost use lib.ListN.{length, take};
 ghost use Rattle.printing.specs.Placed.{Put, Prints};
 ghost use Rattle.printing.specs.Printed.{decimalOf, wordOf, lineOf, printedAnswers, printedRefusal, answeredIn, printedRun};
@@ -16,12 +17,21 @@ pub enum Number {
 }
 
 // Puts a text into out from a place on, and returns the place after it.
-pub fn put(text: &[u8], out: &mut [u8], at: usize) -> usize
+fn put(text: &[u8], out: &mut [u8], at: usize) -> usize
     requires { ⌜ at + length (now text) ≤ length (now out) ⌝ }
     ensures { λ r. ⌜ Put (now (text .entry)) at (now (out .entry)) r (now (out .exit)) ⌝ }
 {
     let n = bytes::copy(text, &mut out[at..]);
     at + n
+}
+
+// Puts two texts one after the other, and returns the length of both.
+pub fn join(first: &[u8], second: &[u8], out: &mut [u8]) -> usize
+    requires { ⌜ length (now first) + length (now second) ≤ length (now out) ⌝ }
+    ensures { λ r. ⌜ Prints (now (first .entry) ++ now (second .entry)) (now (out .entry)) r (now (out .exit)) ⌝ }
+{
+    let n = put(first, out, 0);
+    put(second, out, n)
 }
 
 // Puts a number in decimal.

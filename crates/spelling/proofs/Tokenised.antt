@@ -11,12 +11,12 @@ use lib.ListN.{length, getD, take, drop, take-append-drop}
 use lib.Seq.{drop-drop, take-append-seam}
 use lib.Dec.{eqb}
 use borrow.Author.Tests.{eqb-true}
-use Rattle.infon.specs.Bytes.{space, lineFeed, every}
-use Rattle.infon.specs.Formula.{Formula, tokens, formulaOf}
+use Rattle.infon.specs.Bytes.{bytes, space, lineFeed, every}
+use Rattle.infon.specs.Formula.{Formula, isNameByte, isName, tokens, formulaOf}
 use Rattle.infon.specs.Policy.{isSome}
 use Rattle.infon.proofs.Rows.{and-true, or-true, decided}
 use Rattle.infon.proofs.Words.{every-append, lacks, lacks-cons, cons-lacks, tokens-word, tokens-last}
-use Rattle.infon.proofs.Readable.{spelling-read, spelling-lacks-lineFeed}
+use Rattle.infon.proofs.Readable.{isWordByte, name-lacks, spelling-read, spelling-lacks-lineFeed}
 use Rattle.spelling.specs.Token.{isBreak, wordLength, wordAt}
 use Rattle.spelling.proofs.Breaks.{wordAt-length}
 
@@ -122,3 +122,9 @@ pub token-cut : (text : List ℕ) (at : ℕ) (word : List ℕ) (b : ℕ) (rest :
 unfolding wordAt
 token-cut text at word b rest h s f e =
     rw (h, word-cut word b rest s f e) (take-append-seam word (b ∷ rest))
+
+pub name-token : (text : List ℕ) (at : ℕ) (a : List ℕ) (b : ℕ) (rest : List ℕ) → isName a ≡ true → isBreak b ≡ true
+    → drop at text ≡ a ++ (b ∷ rest) → wordAt text at ≡ a
+unfolding isWordByte isNameByte bytes lacks every space lineFeed
+name-token text at a b rest named broken h =
+    token-cut text at a b rest h (name-lacks space a refl named) (name-lacks lineFeed a refl named) broken

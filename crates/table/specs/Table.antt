@@ -32,7 +32,7 @@ unfoldable pub putMask : Prefix → ℕ
 putMask [] = 0
 putMask (q ∷ outer) = putMask outer + putBit (q .told) * 2 ^ length outer
 
--- the same formula with put at every place
+-- the same prefix with put at every place
 unfoldable pub allPut : Prefix → Prefix
 allPut pref = map (λ (q : Quotation). record { told = put; principal = q .principal }) pref
 

@@ -1,4 +1,5 @@
 pub mod Firsts
 pub mod Leads
 pub mod Pairs
-pub mod Scan
+pub mod Rulewise
+pub mod Onward

@@ -17,47 +17,36 @@ Inv-loop queries asked marks finished answers₀ i₀ answers i =
 abbrev μ-loop : tie.MeasureT-loop
 μ-loop queries asked marks finished answers₀ i₀ answers i = asked - i
 
--- src/lib.rt:45:5
 loop-holds : tie.Need-loop-holds Inv-loop μ-loop
 loop-holds c = begin _ _ _ _ _
 
--- src/lib.rt:46:22
 mul-number : tie.Need-mul-number Inv-loop μ-loop
 mul-number c = search needs
 
--- src/lib.rt:46:22
 shared-slice-read-number : tie.Need-shared-slice-read-number Inv-loop μ-loop
 shared-slice-read-number c = omega (arith, c .before .before .before .before .before .before .pre .listed)
 
--- src/lib.rt:46:22
 cast-number : tie.Need-cast-number Inv-loop μ-loop
 cast-number c = omega (arith, c .shared-slice-known3 .given (c .before .before .loop .i))
 
--- src/lib.rt:47:22
 answer-at-requires : tie.Need-answer-at-requires Inv-loop μ-loop
 answer-at-requires c κs = c .before .before .before .before .before .before .pre .marked (c .before .before .loop .i) (c .before .loop-test .taken)
 
--- src/lib.rt:47:9
 slice-write-answers : tie.Need-slice-write-answers Inv-loop μ-loop
 slice-write-answers c = omega (arith, c .before .before .before .loop .inv .long, c .before .before .before .before .before .before .before .pre .room)
 
--- src/lib.rt:48:9
 add-i : tie.Need-add-i Inv-loop μ-loop
 add-i c = search needs
 
--- src/lib.rt:45:5
 loop-less : tie.Need-loop-less Inv-loop μ-loop
 loop-less c = search needs
 
--- src/lib.rt:45:5
 loop-again : tie.Need-loop-again Inv-loop μ-loop
 loop-again c = turn _ _ _ _ _ _ _ _ (c .before .before .before .before .before .before .before .pre) (c .before .before .before .loop .inv) (c .before .before .loop-test .taken) (c .answer-at .ensures)
 
--- src/lib.rt:39:1
 same-length : tie.Need-same-length Inv-loop μ-loop
 same-length c = c .before .loop .inv .long
 
--- src/lib.rt:39:1
 returns : tie.Need-returns Inv-loop μ-loop
 returns c = over _ _ _ _ _ _ _ (c .before .loop .inv) (c .loop-test .left)
 

@@ -49,17 +49,17 @@ returns-3 c = search needs
 array-share-prefix-file : tie.Need-array-share-prefix-file
 array-share-prefix-file c = read (c .before .before .before .before .before .before .before .before) .0
 
-slice-aggregate-answer : tie.Need-slice-aggregate-answer
-slice-aggregate-answer c = read (c .before .before .before .before .before .before .before .before .before) .1
+slice-aggregate-settle : tie.Need-slice-aggregate-settle
+slice-aggregate-settle c = read (c .before .before .before .before .before .before .before .before .before) .1
 
-slice-aggregate-answer-2 : tie.Need-slice-aggregate-answer-2
-slice-aggregate-answer-2 c = search needs
+slice-aggregate-settle-2 : tie.Need-slice-aggregate-settle-2
+slice-aggregate-settle-2 c = search needs
 
-slice-aggregate-answer-3 : tie.Need-slice-aggregate-answer-3
-slice-aggregate-answer-3 c = search needs
+slice-aggregate-settle-3 : tie.Need-slice-aggregate-settle-3
+slice-aggregate-settle-3 c = search needs
 
-answer-requires : tie.Need-answer-requires
-answer-requires c κs = search needs
+settle-requires : tie.Need-settle-requires
+settle-requires c κs = search needs
 
 array-share-prefix-records : tie.Need-array-share-prefix-records
 array-share-prefix-records c = search needs
@@ -111,10 +111,10 @@ night-spec =
     say-too-long-requires
     returns-3
     array-share-prefix-file
-    slice-aggregate-answer
-    slice-aggregate-answer-2
-    slice-aggregate-answer-3
-    answer-requires
+    slice-aggregate-settle
+    slice-aggregate-settle-2
+    slice-aggregate-settle-3
+    settle-requires
     array-share-prefix-records
     slice-aggregate-keep
     keep-requires

@@ -1,4 +1,5 @@
--- `reader::next_in` meets its contract, by a walk through its MIR: the reader's two fields are copied and passed to `record_at`, whose contract is all that is known of it.
+-- `reader::next_in` meets its contract, by a walk through its MIR: the reader's two fields are copied and passed to `record_at`,
+-- whose contract is all that is known of it.
 -- A reader can be had twice: one stays whole until the end, and what the other's journal and place own goes into the call.
 -- Assumes nothing.
 use mathlib.Core.Path.{_≡_, refl}

@@ -1,5 +1,6 @@
--- `reader::read_at` meets its contract, by a walk through its MIR: the reader that `reader_at` makes stands in a local and goes on to `next_in`. Of both, their contracts are all that is known.
--- The journal is had once more than the first call takes, for the end. A local's type names no lifetime, so the reader's value is shown to have its type at `erased`.
+-- `reader::read_at` meets its contract, by a walk through its MIR: the reader that `reader_at` makes stands in a local and goes on
+-- to `next_in`. Of both, their contracts are all that is known. The journal is had once more than the first call takes, for the
+-- end. A local's type names no lifetime, so the reader's value is shown to have its type at `erased`.
 -- Assumes nothing.
 use mathlib.Core.Path.{_≡_, refl, _∙_}
 use Prim.Native.Nat.{ℕ, _<_, _^_}

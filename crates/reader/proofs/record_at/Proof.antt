@@ -1,4 +1,5 @@
--- `reader::record_at` meets its contract: the two tests find out that fewer than nine bytes are left, and where none does, `decode` gives what the nine spell.
+-- `reader::record_at` meets its contract: the two tests find out that fewer than nine bytes are left, and where none does, `decode`
+-- gives what the nine spell.
 -- Assumes nothing.
 use mathlib.Core.Path.{refl}
 use lib.ListN.{length-take, length-drop}

@@ -2,7 +2,7 @@
 -- Assumes nothing.
 use mathlib.Core.Path.{sym, _∙_}
 use borrow.Author.Needs.{needs}
-use Rattle.ways.proofs.Scan.{due-marked, due-open}
+use Rattle.ways.proofs.Rulewise.{due-marked, due-open}
 use Rattle.ways.proofs.due_way.Statement.{statement}
 use Rattle.ways.proofs.due_way.Tie as tie
 

@@ -1,7 +1,7 @@
 -- `ways::from_parts` meets its contract: the first of rules 6, 7 and 8 that leads to f.
 -- Assumes nothing.
 use borrow.Author.Needs.{needs}
-use Rattle.ways.proofs.Scan.{last-both, last-apply, last-attach}
+use Rattle.ways.proofs.Rulewise.{last-both, last-apply, last-attach}
 use Rattle.ways.proofs.from_parts.Statement.{statement}
 use Rattle.ways.proofs.from_parts.Tie as tie
 

@@ -2,7 +2,7 @@
 -- Assumes nothing.
 use native.Mathlib.Omega.{arith}
 use borrow.Author.Needs.{needs}
-use Rattle.ways.proofs.Scan.{NotAtOnce, by-hypothesis, by-given, not-at-once, by-weaken, by-left, past-left, by-right, past-right}
+use Rattle.ways.proofs.Rulewise.{NotAtOnce, by-hypothesis, by-given, not-at-once, by-weaken, by-left, past-left, by-right, past-right}
 use Rattle.ways.proofs.least_way.Statement.{statement}
 use Rattle.ways.proofs.least_way.Tie as tie
 

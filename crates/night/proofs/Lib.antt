@@ -1,3 +1,0 @@
-pub mod Settling
-pub mod Folder
-pub mod Written

@@ -1,0 +1,4 @@
+pub mod Settling
+pub mod LastSlash
+pub mod Written
+pub mod OneAnswer
