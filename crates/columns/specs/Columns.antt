@@ -6,8 +6,8 @@ use mathlib.Core.List.{List}
 use lib.ListN.{length, getD, set}
 use lib.Dec.{ltb, eqb}
 use Rattle.nodes.specs.Nodes.{nodeAt, countNodes, nodesOf}
-use Rattle.prefix.specs.Places.{used, prefixAt, waysOf}
-use Rattle.prefix.specs.Weaker.{waysTo}
+use Rattle.prefix.specs.Places.{used, prefixAt, weakerCountOf}
+use Rattle.prefix.specs.Weaker.{weakerCount}
 use Rattle.prefix.specs.Held.{NodesHeld}
 
 -- how many forms a node has at most: two to the number of places
@@ -48,7 +48,7 @@ rightColumn t cand owners i =
 unfoldable pub bottomColumn : List ℕ → List ℕ → List ℕ → ℕ → ℕ
 bottomColumn t cand owners i =
     let b = getD owners i 0 / stride in
-    getD cand (b * stride + (waysOf (used (prefixAt t b)) - 1)) 0
+    getD cand (b * stride + (weakerCountOf (used (prefixAt t b)) - 1)) 0
 
 unfoldable pub nothing : ℕ → ℕ
 nothing i = 0
@@ -78,7 +78,7 @@ filled t cand keys owners n table = filledTo 6 t cand keys owners n table
 
 -- form m of node b, of some file whose node table this is
 abbrev pub IsForm : List ℕ → ℕ → ℕ → Type 0
-IsForm t b m = (file : List ℕ) × (NodesHeld file t × ((b < countNodes (nodesOf file)) × (m < waysTo (nodeAt (nodesOf file) b .pre))))
+IsForm t b m = (file : List ℕ) × (NodesHeld file t × ((b < countNodes (nodesOf file)) × (m < weakerCount (nodeAt (nodesOf file) b .pre))))
 
 -- the form of a base as which a formula was first listed, of some file whose node table this is
 abbrev pub IsOwner : List ℕ → List ℕ → ℕ → Type 0

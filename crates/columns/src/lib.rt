@@ -1,12 +1,12 @@
 // The columns of the formula table that come from the list alone, one after the other. Form number m of node b stands at
-// b * WAYS + m; `owners` has the form as which a formula was first listed, `cand` the number of every form of a base.
+// b * STRIDE + m; `owners` has the form as which a formula was first listed, `cand` the number of every form of a base.
 ghost use mathlib.Core.Path.{_≡_};
 ghost use Prim.Native.Nat.{_*_, _<_, _≤_};
 ghost use lib.ListN.{length};
 ghost use Rattle.columns.specs.Columns.{stride, inwardKind, numberAt, kindColumn, putColumn, leftColumn, rightColumn, bottomColumn, columnOf, withColumn, filled, IsForm, IsOwner, Owner, Room};
 
 // How many forms a node has at most: two to the number of places.
-pub const WAYS: usize = 16;
+pub const STRIDE: usize = 16;
 
 // The columns of the formula table, each of so many rows.
 const KIND: usize = 0;
@@ -53,7 +53,7 @@ pub fn number_at(nodes: &[u16], cand: &[u16], j: usize, m: usize) -> u16
         at += 1;
         kind = nodes[at];
     }
-    cand[at * WAYS + form]
+    cand[at * STRIDE + form]
 }
 
 // The kind of formula i: that of its base.
@@ -61,7 +61,7 @@ fn kind_of(nodes: &[u16], owners: &[u32], i: usize) -> u16
     requires { ⌜ (i < length (now owners)) × IsOwner (now nodes) (now owners) i ⌝ }
     ensures { λ r. ⌜ r ≡ kindColumn (now (nodes .entry)) (now (owners .entry)) i ⌝ }
 {
-    let b = owners[i] as usize / WAYS;
+    let b = owners[i] as usize / STRIDE;
     nodes[b]
 }
 
@@ -70,7 +70,7 @@ fn puts_of(keys: &[u32], i: usize) -> u16
     requires { ⌜ i < length (now keys) ⌝ }
     ensures { λ r. ⌜ r ≡ putColumn (now (keys .entry)) i ⌝ }
 {
-    let puts = keys[i] as usize % WAYS;
+    let puts = keys[i] as usize % STRIDE;
     puts as u16
 }
 
@@ -80,11 +80,11 @@ fn left_of(nodes: &[u16], cand: &[u16], owners: &[u32], i: usize) -> u16
     ensures { λ r. ⌜ r ≡ leftColumn (now (nodes .entry)) (now (cand .entry)) (now (owners .entry)) i ⌝ }
 {
     let owner = owners[i] as usize;
-    let b = owner / WAYS;
+    let b = owner / STRIDE;
     if nodes[b] < 2 {
         return NONE;
     }
-    number_at(nodes, cand, b + 1, owner % WAYS)
+    number_at(nodes, cand, b + 1, owner % STRIDE)
 }
 
 // The number of the right part of formula i: it begins behind the left part's last node.
@@ -93,13 +93,13 @@ fn right_of(nodes: &[u16], cand: &[u16], owners: &[u32], i: usize) -> u16
     ensures { λ r. ⌜ r ≡ rightColumn (now (nodes .entry)) (now (cand .entry)) (now (owners .entry)) i ⌝ }
 {
     let owner = owners[i] as usize;
-    let b = owner / WAYS;
+    let b = owner / STRIDE;
     if nodes[b] < 2 {
         return NONE;
     }
     let left = b + 1;
     let right = nodes[END + left] as usize;
-    number_at(nodes, cand, right, owner % WAYS)
+    number_at(nodes, cand, right, owner % STRIDE)
 }
 
 // The number of the form of formula i that has put at every place: the last of its node's forms.
@@ -107,9 +107,9 @@ fn bottom_of(nodes: &[u16], cand: &[u16], owners: &[u32], i: usize) -> u16
     requires { ⌜ Owner (now nodes) (now cand) (now owners) i ⌝ }
     ensures { λ r. ⌜ r ≡ bottomColumn (now (nodes .entry)) (now (cand .entry)) (now (owners .entry)) i ⌝ }
 {
-    let b = owners[i] as usize / WAYS;
-    let last = prefix::ways(prefix::prefix_of(nodes, b)) - 1;
-    cand[b * WAYS + last]
+    let b = owners[i] as usize / STRIDE;
+    let last = prefix::weaker_count(prefix::prefix_of(nodes, b)) - 1;
+    cand[b * STRIDE + last]
 }
 
 // What a column has at formula i as far as the list tells it: no formula is marked as a hypothesis yet.

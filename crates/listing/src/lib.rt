@@ -1,7 +1,7 @@
 // The list of formulas that matter, and the formula table: all bases in order, each weaker prefix in order, each formula found
-// among those listed or put behind them. Form m of node b, its formula under weaker prefix number m, stands at b * WAYS + m: `cand`
+// among those listed or put behind them. Form m of node b, its formula under weaker prefix number m, stands at b * STRIDE + m: `cand`
 // has the number of every form of a base, `owners` the form as which a formula was first listed, `keys` that form's key.
-use columns::WAYS;
+use columns::STRIDE;
 use prefix::Prefix;
 ghost use mathlib.Core.Path.{_≡_};
 ghost use mathlib.Core.Bool.{cond};
@@ -72,14 +72,14 @@ fn list_forms(
     requires { ⌜ Ready p kin base (now cand) (now keys) (now owners) count ⌝ }
     ensures { λ r. ⌜ FormsEntered p kin base (now (cand .entry)) (now (keys .entry)) (now (owners .entry)) count (now (cand .exit)) (now (keys .exit)) (now (owners .exit)) r ⌝ }
 {
-    let all = prefix::ways(p);
+    let all = prefix::weaker_count(p);
     let mut n = count;
     let mut m = 0;
     while m < all {
         let puts = prefix::puts(prefix::weaker(p, m));
-        let key = (kin * WAYS + puts) as u32;
+        let key = (kin * STRIDE + puts) as u32;
         let at = find(keys, n, key);
-        let form = base * WAYS + m;
+        let form = base * STRIDE + m;
         cand[form] = at as u16;
         keys[n] = key;
         owners[n] = form as u32;

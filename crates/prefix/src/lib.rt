@@ -2,7 +2,7 @@
 // and its principal, the principal by the number of its quotation node.
 ghost use mathlib.Core.Path.{_≡_};
 ghost use Prim.Native.Nat.{_<_};
-ghost use Rattle.prefix.specs.Places.{Sized, used, prefixAt, Readable, branches, waysOf, lowered, laterBits, weakerAt, putWeight, putsOf};
+ghost use Rattle.prefix.specs.Places.{Sized, used, prefixAt, Readable, branches, weakerCountOf, lowered, laterBits, weakerAt, putWeight, putsOf};
 
 // "A prefix is at most four places": the one number to change for longer ones.
 pub const PLACES: usize = 4;
@@ -60,9 +60,9 @@ fn branched(said: bool, n: usize) -> usize
 }
 
 // How many weaker prefixes there are, the prefix itself among them.
-pub fn ways(p: Prefix) -> usize
+pub fn weaker_count(p: Prefix) -> usize
     requires { ⌜ Sized p ⌝ }
-    ensures { λ r. ⌜ r ≡ waysOf (used p) ⌝ }
+    ensures { λ r. ⌜ r ≡ weakerCountOf (used p) ⌝ }
 {
     let places = p.places;
     let mut k = p.count;
