@@ -1,5 +1,7 @@
 // The columns of the formula table that come from the list alone, one after the other. Form number m of node b stands at
 // b * STRIDE + m; `owners` has the form as which a formula was first listed, `cand` the number of every form of a base.
+use nodes::AND;
+use nodes::SAID;
 ghost use mathlib.Core.Path.{_≡_};
 ghost use Prim.Native.Nat.{_*_, _<_, _≤_};
 ghost use lib.ListN.{length};
@@ -34,7 +36,7 @@ fn inward(kind: u16, m: usize) -> usize
     requires { ⌜ m < 1024 ⌝ }
     ensures { λ r. ⌜ r ≡ inwardKind kind m ⌝ }
 {
-    if kind == 4 {
+    if kind == SAID {
         return 2 * m;
     }
     m
@@ -48,7 +50,7 @@ pub fn number_at(nodes: &[u16], cand: &[u16], j: usize, m: usize) -> u16
     let mut at = j;
     let mut form = m;
     let mut kind = nodes[at];
-    while 4 <= kind {
+    while SAID <= kind {
         form = inward(kind, form);
         at += 1;
         kind = nodes[at];
@@ -81,7 +83,7 @@ fn left_of(nodes: &[u16], cand: &[u16], owners: &[u32], i: usize) -> u16
 {
     let owner = owners[i] as usize;
     let b = owner / STRIDE;
-    if nodes[b] < 2 {
+    if nodes[b] < AND {
         return NONE;
     }
     number_at(nodes, cand, b + 1, owner % STRIDE)
@@ -94,7 +96,7 @@ fn right_of(nodes: &[u16], cand: &[u16], owners: &[u32], i: usize) -> u16
 {
     let owner = owners[i] as usize;
     let b = owner / STRIDE;
-    if nodes[b] < 2 {
+    if nodes[b] < AND {
         return NONE;
     }
     let left = b + 1;

@@ -1,6 +1,7 @@
 -- The lines of a file, one by one: what letter each begins with, and how the nodes lead from one to the next.
 -- Assumes nothing.
 use Prim.Native.Nat.{ℕ, _+_, _≤_, _<_}
+use Prim.Native.Char.{code}
 use native.Mathlib.Omega.{arith}
 use mathlib.Core.Path.{_≡_, refl, sym, _∙_, ap}
 use mathlib.Core.Option.{Option, none, some}
@@ -19,8 +20,8 @@ use Rattle.prefix.specs.Weaker.{weakerCount, choose, formAt}
 
 -- the first byte of a line
 unfoldable pub letterByte : Sentence → ℕ
-letterByte (hypothesis x) = 72
-letterByte (query x) = 81
+letterByte (hypothesis x) = code "H"
+letterByte (query x) = code "Q"
 
 abbrev pub Letters : List ℕ → List Entry → Type 0
 Letters file [] = Unit {0}

@@ -2,6 +2,7 @@
 // among those listed or put behind them. Form m of node b, its formula under weaker prefix number m, stands at b * STRIDE + m: `cand`
 // has the number of every form of a base, `owners` the form as which a formula was first listed, `keys` that form's key.
 use columns::STRIDE;
+use nodes::SAID;
 use prefix::Prefix;
 ghost use mathlib.Core.Path.{_≡_};
 ghost use mathlib.Core.Bool.{cond};
@@ -102,7 +103,7 @@ fn list_node(
     requires { ⌜ NodeReady (now file) (now nodes) i (now cand) (now keys) (now owners) n ⌝ }
     ensures { λ r. ⌜ Entered (nodesOf (now (file .entry))) (i + 1) 0 (listedTo (nodesOf (now (file .entry))) (suc i)) (now (cand .exit)) (now (keys .exit)) (now (owners .exit)) r ⌝ }
 {
-    if 4 <= nodes[i] {
+    if SAID <= nodes[i] {
         return n;
     }
     let kin = kin::first_akin(file, nodes, i);

@@ -1,5 +1,6 @@
 // A prefix: the row of quotations above a base, by value. Its places go from the innermost to the outermost, each with its kind
 // and its principal, the principal by the number of its quotation node.
+use nodes::SAID;
 ghost use mathlib.Core.Path.{_≡_};
 ghost use Prim.Native.Nat.{_<_};
 ghost use Rattle.prefix.specs.Places.{Sized, used, prefixAt, Readable, branches, weakerCountOf, lowered, laterBits, weakerAt, putWeight, putsOf};
@@ -40,7 +41,7 @@ pub fn prefix_of(nodes: &[u16], i: usize) -> Prefix
     let mut k = 0;
     while k < count {
         let node = above as usize;
-        let said = nodes[node] == 4;
+        let said = nodes[node] == SAID;
         places[k] = Place { said, node: above };
         above = nodes[ABOVE + node];
         k += 1;
