@@ -1,7 +1,15 @@
 // The columns of the formula table that come from the list alone, one after the other. Form number m of node b stands at
 // b * STRIDE + m; `owners` has the form as which a formula was first listed, `cand` the number of every form of a base.
 use nodes::AND;
+use nodes::END;
 use nodes::SAID;
+use table::BOTTOM;
+use table::COLUMNS;
+use table::KIND;
+use table::LEFT;
+use table::PUTS;
+use table::RIGHT;
+use table::ROWS;
 ghost use mathlib.Core.Path.{_≡_};
 ghost use Prim.Native.Nat.{_*_, _<_, _≤_};
 ghost use lib.ListN.{length};
@@ -9,24 +17,6 @@ ghost use Rattle.columns.specs.Columns.{stride, inwardKind, numberAt, ki
 
 // How many forms a node has at most: two to the number of places.
 pub const STRIDE: usize = 16;
-
-// The columns of the formula table, each of so many rows.
-const KIND: usize = 0;
-
-const PUTS: usize = 1;
-
-const LEFT: usize = 2;
-
-const RIGHT: usize = 3;
-
-const BOTTOM: usize = 4;
-
-const COLUMNS: usize = 6;
-
-const ROWS: usize = 4096;
-
-// Where the node table's column begins that tells the number behind a node's last node.
-const END: usize = 3072;
 
 // A part that is not there.
 const NONE: u16 = 65535;

@@ -2,6 +2,8 @@
 // among those listed or put behind them. Form m of node b, its formula under weaker prefix number m, stands at b * STRIDE + m: `cand`
 // has the number of every form of a base, `owners` the form as which a formula was first listed, `keys` that form's key.
 use columns::STRIDE;
+use nodes::END;
+use nodes::LINE;
 use nodes::SAID;
 use prefix::Prefix;
 ghost use mathlib.Core.Path.{_≡_};
@@ -25,14 +27,8 @@ const FORMS: usize = 16384;
 // Room for a list that the last base takes over the limit.
 const ROOM: usize = 4112;
 
-// Where the node table's column begins that tells the number behind a node's last node.
-const END: usize = 3072;
-
-// Where the node table's column begins that tells the start of a node's line.
-const LINE: usize = 5120;
-
 // Where the formula table's column of hypotheses begins.
-const HYPOTHESES: usize = 20480;
+const HYPOTHESES: usize = table::HYPOTHESIS * table::ROWS;
 
 // Where a formula with this key stands among the first n, n where it is new.
 fn find(keys: &[u32], n: usize, key: u32) -> usize

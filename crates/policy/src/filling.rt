@@ -18,7 +18,7 @@ ghost use Rattle.infon.specs.Policy.{entriesOf, passed, code2, code3};
 ghost use Rattle.nodes.specs.Nodes.{nodeCell};
 ghost use Rattle.policy.specs.Filling.{cellAt, tableSize, kindNumber, firstCell, endedCell, endFrom, EndReads, handedDown, Begun, Holding, Passes};
 
-// The kinds, as numbers to count with.
+// The kinds, as wide as `cell` gives them.
 const TRUE: usize = nodes::TRUE as usize;
 
 const NAME: usize = nodes::NAME as usize;

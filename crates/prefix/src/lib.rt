@@ -1,5 +1,7 @@
 // A prefix: the row of quotations above a base, by value. Its places go from the innermost to the outermost, each with its kind
 // and its principal, the principal by the number of its quotation node.
+use nodes::ABOVE;
+use nodes::DEPTH;
 use nodes::SAID;
 ghost use mathlib.Core.Path.{_≡_};
 ghost use Prim.Native.Nat.{_<_};
@@ -7,12 +9,6 @@ ghost use Rattle.prefix.specs.Places.{Sized, used, prefixAt, Readable, b
 
 // "A prefix is at most four places": the one number to change for longer ones.
 pub const PLACES: usize = 4;
-
-// Where the node table's column begins that tells the nearest quotation above a node.
-const ABOVE: usize = 4096;
-
-// Where the node table's column begins that tells how many quotations are above a node.
-const DEPTH: usize = 6144;
 
 // One place: its kind, and the number of its quotation node.
 pub struct Place {
