@@ -1,6 +1,7 @@
 -- What stands in the table once its columns are set.
 -- Assumes nothing.
 use Prim.Native.Nat.{ℕ, zero, suc, _+_, _*_, _≤_, _<_}
+use native.Mathlib.Numerals.{add-one}
 use native.Mathlib.Omega.{arith}
 use mathlib.Core.Path.{_≡_, refl, _∙_, ap}
 use mathlib.Core.Logic.{_⊎_, inl, inr, ⊎-elim}
@@ -11,7 +12,7 @@ use lib.Seq.{getD-set-same, getD-set-other}
 use lib.Dec.{ltb}
 use borrow.Author.Tests.{ltb-true, ltb-false}
 use Rattle.infon.proofs.Rows.{decided}
-use Rattle.columns.specs.Columns.{kindColumn, putColumn, leftColumn, rightColumn, bottomColumn, withColumn, nothing, filled}
+use Rattle.columns.specs.Columns.{columnOf, withColumn, filledTo, filled}
 use Rattle.columns.proofs.Steps.{column-length}
 
 module _ (from : ℕ) (f : ℕ → ℕ) (before : List ℕ) where
@@ -43,120 +44,65 @@ module _ (from : ℕ) (f : ℕ → ℕ) (before : List ℕ) where
       (getD-set-same (withColumn from f n before) (from + n) (f n) 0 (omega (arith, column-length from f n before))))
       (decided (ltb i n))
 
--- The table that `fill_columns` leaves.
-module _ (t cand keys owners : List ℕ) (n : ℕ) (table : List ℕ) (few : n ≤ 4096) (long : 6 * 4096 ≤ length table) where
-  kinds : List ℕ
-  kinds = withColumn 0 (kindColumn t owners) n table
+-- The table that `fill_columns` leaves, column by column.
+module _ (t cand keys owners : List ℕ) (n : ℕ) (table : List ℕ) where
+  abbrev upTo : ℕ → List ℕ
+  upTo c = filledTo c t cand keys owners n table
 
-  puts : List ℕ
-  puts = withColumn 4096 (putColumn keys) n kinds
+  abbrev column : ℕ → ℕ → ℕ
+  column = columnOf t cand keys owners
 
-  lefts : List ℕ
-  lefts = withColumn 8192 (leftColumn t cand owners) n puts
+  pub length-to : (c : ℕ) → length (upTo c) ≡ length table
+  unfolding filledTo
+  length-to zero = refl
+  length-to (suc c) = column-length (c * 4096) (column c) n (upTo c) ∙ length-to c
 
-  rights : List ℕ
-  rights = withColumn 12288 (rightColumn t cand owners) n lefts
+  -- one more column, and all of them
+  pub columns-turn : (c : ℕ) (so-far next : List ℕ) → so-far ≡ upTo c → next ≡ withColumn (c * 4096) (column c) n so-far → next ≡ upTo (c + 1)
+  unfolding filledTo
+  columns-turn c so-far next e set-is = rw (set-is, e, add-one c)
 
-  bottoms : List ℕ
-  bottoms = withColumn 16384 (bottomColumn t cand owners) n rights
+  pub columns-over : (c : ℕ) (last : List ℕ) → last ≡ upTo c → c ≤ 6 → 6 ≤ c → last ≡ filled t cand keys owners n table
+  unfolding filled
+  columns-over c last e low high =
+      let all : c ≡ 6 = omega arith in
+      e ∙ ap upTo all
 
-  whole : filled t cand keys owners n table ≡ withColumn 20480 nothing n bottoms
-  unfolding filled kinds puts lefts rights bottoms
-  whole = refl
+  cell-to : n ≤ 4096 → 6 * 4096 ≤ length table → (c k i : ℕ) → c ≤ 6 → k < c → i < n → getD (upTo c) (k * 4096 + i) 0 ≡ column k i
+  unfolding filledTo
+  cell-to few long zero k i room below h = absurd (omega arith)
+  cell-to few long (suc c) k i room below h =
+      ⊎-elim
+      (λ (less : ltb k c ≡ true).
+      let earlier = ltb-true k c less in
+      column-other (c * 4096) (column c) (upTo c) n (k * 4096 + i) (inl (omega arith)) ∙ cell-to few long c k i (omega arith) earlier h)
+      (λ (more : ltb k c ≡ false).
+      let e : k ≡ c = omega (arith, ltb-false k c more) in
+      rw e (column-cell (c * 4096) (column c) (upTo c) n i (omega (arith, length-to c)) h))
+      (decided (ltb k c))
 
-  kinds-long : length kinds ≡ length table
-  unfolding kinds
-  kinds-long = column-length 0 (kindColumn t owners) n table
-
-  puts-long : length puts ≡ length table
-  unfolding puts
-  puts-long = column-length 4096 (putColumn keys) n kinds ∙ kinds-long
-
-  lefts-long : length lefts ≡ length table
-  unfolding lefts
-  lefts-long = column-length 8192 (leftColumn t cand owners) n puts ∙ puts-long
-
-  rights-long : length rights ≡ length table
-  unfolding rights
-  rights-long = column-length 12288 (rightColumn t cand owners) n lefts ∙ lefts-long
-
-  bottoms-long : length bottoms ≡ length table
-  unfolding bottoms
-  bottoms-long = column-length 16384 (bottomColumn t cand owners) n rights ∙ rights-long
-
-  pub filled-length : length (filled t cand keys owners n table) ≡ length table
-  filled-length = ap length whole ∙ column-length 20480 nothing n bottoms ∙ bottoms-long
-
-  -- the later columns leave a cell as it is
-  from-bottoms : (j : ℕ) → (j < 20480) ⊎ (20480 + n ≤ j) → getD (filled t cand keys owners n table) j 0 ≡ getD bottoms j 0
-  from-bottoms j h = ap (λ (s : List ℕ). getD s j 0) whole ∙ column-other 20480 nothing bottoms n j h
-
-  from-rights : (j : ℕ) → (j < 16384) ⊎ (16384 + n ≤ j) → getD bottoms j 0 ≡ getD rights j 0
-  unfolding bottoms
-  from-rights = column-other 16384 (bottomColumn t cand owners) rights n
-
-  from-lefts : (j : ℕ) → (j < 12288) ⊎ (12288 + n ≤ j) → getD rights j 0 ≡ getD lefts j 0
-  unfolding rights
-  from-lefts = column-other 12288 (rightColumn t cand owners) lefts n
-
-  from-puts : (j : ℕ) → (j < 8192) ⊎ (8192 + n ≤ j) → getD lefts j 0 ≡ getD puts j 0
-  unfolding lefts
-  from-puts = column-other 8192 (leftColumn t cand owners) puts n
-
-  from-kinds : (j : ℕ) → (j < 4096) ⊎ (4096 + n ≤ j) → getD puts j 0 ≡ getD kinds j 0
-  unfolding puts
-  from-kinds = column-other 4096 (putColumn keys) kinds n
-
-  from-table : (j : ℕ) → (j < 0) ⊎ (0 + n ≤ j) → getD kinds j 0 ≡ getD table j 0
-  unfolding kinds
-  from-table = column-other 0 (kindColumn t owners) table n
-
-  module _ (i : ℕ) (h : i < n) where
-    pub filled-kinds : getD (filled t cand keys owners n table) (0 + i) 0 ≡ kindColumn t owners i
-    unfolding kinds
-    filled-kinds =
-        from-bottoms (0 + i) (inl (omega arith)) ∙ from-rights (0 + i) (inl (omega arith)) ∙ from-lefts (0 + i) (inl (omega arith))
-        ∙ from-puts (0 + i) (inl (omega arith)) ∙ from-kinds (0 + i) (inl (omega arith))
-        ∙ column-cell 0 (kindColumn t owners) table n i (omega arith) h
-
-    pub filled-puts : getD (filled t cand keys owners n table) (4096 + i) 0 ≡ putColumn keys i
-    unfolding puts
-    filled-puts =
-        from-bottoms (4096 + i) (inl (omega arith)) ∙ from-rights (4096 + i) (inl (omega arith)) ∙ from-lefts (4096 + i) (inl (omega arith))
-        ∙ from-puts (4096 + i) (inl (omega arith)) ∙ column-cell 4096 (putColumn keys) kinds n i (omega (arith, kinds-long)) h
-
-    pub filled-lefts : getD (filled t cand keys owners n table) (8192 + i) 0 ≡ leftColumn t cand owners i
-    unfolding lefts
-    filled-lefts =
-        from-bottoms (8192 + i) (inl (omega arith)) ∙ from-rights (8192 + i) (inl (omega arith)) ∙ from-lefts (8192 + i) (inl (omega arith))
-        ∙ column-cell 8192 (leftColumn t cand owners) puts n i (omega (arith, puts-long)) h
-
-    pub filled-rights : getD (filled t cand keys owners n table) (12288 + i) 0 ≡ rightColumn t cand owners i
-    unfolding rights
-    filled-rights =
-        from-bottoms (12288 + i) (inl (omega arith)) ∙ from-rights (12288 + i) (inl (omega arith))
-        ∙ column-cell 12288 (rightColumn t cand owners) lefts n i (omega (arith, lefts-long)) h
-
-    pub filled-bottoms : getD (filled t cand keys owners n table) (16384 + i) 0 ≡ bottomColumn t cand owners i
-    unfolding bottoms
-    filled-bottoms =
-        from-bottoms (16384 + i) (inl (omega arith))
-        ∙ column-cell 16384 (bottomColumn t cand owners) rights n i (omega (arith, rights-long)) h
-
-    pub filled-zeros : getD (filled t cand keys owners n table) (20480 + i) 0 ≡ 0
-    unfolding nothing
-    filled-zeros =
-        ap (λ (s : List ℕ). getD s (20480 + i) 0) whole ∙ column-cell 20480 nothing bottoms n i (omega (arith, bottoms-long)) h
-
-  -- a cell outside every column's first n, by its row
+  -- a row behind the first n is outside every column's first n cells
   outside : (c k i : ℕ) → i < 4096 → n ≤ i → (k * 4096 + i < c * 4096) ⊎ (c * 4096 + n ≤ k * 4096 + i)
   outside c k i row behind =
       ⊎-elim (λ (less : ltb (k * 4096 + i) (c * 4096) ≡ true). inl (ltb-true (k * 4096 + i) (c * 4096) less))
       (λ (more : ltb (k * 4096 + i) (c * 4096) ≡ false). inr (omega (arith, ltb-false (k * 4096 + i) (c * 4096) more)))
       (decided (ltb (k * 4096 + i) (c * 4096)))
 
+  others-to : (c k i : ℕ) → i < 4096 → n ≤ i → getD (upTo c) (k * 4096 + i) 0 ≡ getD table (k * 4096 + i) 0
+  unfolding filledTo
+  others-to zero k i row behind = refl
+  others-to (suc c) k i row behind =
+      column-other (c * 4096) (column c) (upTo c) n (k * 4096 + i) (outside c k i row behind) ∙ others-to c k i row behind
+
+  pub filled-length : length (filled t cand keys owners n table) ≡ length table
+  unfolding filled
+  filled-length = length-to 6
+
+  pub filled-cell : n ≤ 4096 → 6 * 4096 ≤ length table → (k i : ℕ) → k < 6 → i < n
+      → getD (filled t cand keys owners n table) (k * 4096 + i) 0 ≡ column k i
+  unfolding filled
+  filled-cell few long k i = cell-to few long 6 k i (omega arith)
+
   pub filled-others : (k i : ℕ) → i < 4096 → n ≤ i → getD (filled t cand keys owners n table) (k * 4096 + i) 0 ≡ getD table (k * 4096 + i) 0
-  filled-others k i row behind =
-      from-bottoms (k * 4096 + i) (outside 5 k i row behind) ∙ from-rights (k * 4096 + i) (outside 4 k i row behind)
-      ∙ from-lefts (k * 4096 + i) (outside 3 k i row behind) ∙ from-puts (k * 4096 + i) (outside 2 k i row behind)
-      ∙ from-kinds (k * 4096 + i) (outside 1 k i row behind) ∙ from-table (k * 4096 + i) (outside 0 k i row behind)
+  unfolding filled
+  filled-others = others-to 6

@@ -11,12 +11,12 @@ use lib.Dec.{ltb}
 use borrow.Author.Tests.{lt-ltb, le-ltb}
 use Rattle.infon.specs.Formula.{Told, said, put, Quotation, Formula, quoted, nodes}
 use Rattle.nodes.specs.Nodes.{nodeAt, kindOf, nodesOf}
-use Rattle.prefix.specs.Places.{Sized, used, prefixAt, Readable, waysOf}
+use Rattle.prefix.specs.Places.{Sized, used, prefixAt, Readable, weakerCountOf}
 use Rattle.prefix.specs.Weaker.{inwards}
 use Rattle.prefix.specs.Held.{NodesHeld}
-use Rattle.prefix.proofs.Chosen.{ways-bound, ways-positive}
-use Rattle.prefix.proofs.Shown.{kind-cell, end-cell, pre-few, count-few, table-long, readable, prefix-sized, node-ways}
-use Rattle.prefix.proofs.Inside.{kind-quoted, inside-below, inside-ways, Parts, parts-of, left-below, right-below, left-what, left-ways, right-ways}
+use Rattle.prefix.proofs.Chosen.{weaker-count-bound, weaker-count-positive}
+use Rattle.prefix.proofs.Shown.{kind-cell, end-cell, pre-few, count-few, table-long, readable, prefix-sized, node-weaker}
+use Rattle.prefix.proofs.Inside.{kind-quoted, inside-below, inside-weaker, Parts, parts-of, left-below, right-below, left-what, left-weaker, right-weaker}
 use Rattle.columns.specs.Columns.{stride, inwardKind, numberFrom, numberAt, IsForm, withColumn}
 
 -- What is known of a form.
@@ -27,7 +27,7 @@ module _ (t : List ℕ) (b m : ℕ) (form : IsForm t b m) where
   pub form-few : m < 16
   form-few =
       omega
-      (arith, form .1 .1 .1, ways-bound (nodeAt (nodesOf (form .0)) b .pre) (pre-few (form .0) t (form .1 .0) b (form .1 .1 .0)))
+      (arith, form .1 .1 .1, weaker-count-bound (nodeAt (nodesOf (form .0)) b .pre) (pre-few (form .0) t (form .1 .0) b (form .1 .1 .0)))
 
   pub form-table : 7 * 1024 ≤ length t
   form-table = table-long (form .0) t (form .1 .0)
@@ -55,7 +55,7 @@ form-inward t b m (file, (held, (below, less))) h =
       (
         held,
         rw (add-one b, step)
-            (inside-below row b m below q x e, inside-ways row b m below q x e less),
+            (inside-below row b m below q x e, inside-weaker row b m below q x e less),
       ),
     )
 
@@ -134,7 +134,7 @@ module _ (t : List ℕ) (b m : ℕ) (form : IsForm t b m) (two : 2 ≤ getD t b 
         file,
         (
           held,
-          (left-below (nodesOf file) b (form .1 .1 .0) form-parts, left-ways (nodesOf file) b (form .1 .1 .0) form-parts m (form .1 .1 .1)),
+          (left-below (nodesOf file) b (form .1 .1 .0) form-parts, left-weaker (nodesOf file) b (form .1 .1 .0) form-parts m (form .1 .1 .1)),
         ),
       )
 
@@ -150,7 +150,7 @@ module _ (t : List ℕ) (b m : ℕ) (form : IsForm t b m) (two : 2 ≤ getD t b 
         file,
         (
           held,
-          (right-below (nodesOf file) b (form .1 .1 .0) form-parts, right-ways (nodesOf file) b (form .1 .1 .0) form-parts m (form .1 .1 .1)),
+          (right-below (nodesOf file) b (form .1 .1 .0) form-parts, right-weaker (nodesOf file) b (form .1 .1 .0) form-parts m (form .1 .1 .1)),
         ),
       )
 
@@ -162,11 +162,11 @@ module _ (t : List ℕ) (b m : ℕ) (form : IsForm t b m) where
   pub form-sized : Sized (prefixAt t b)
   form-sized = prefix-sized (form .0) t (form .1 .0) b (form .1 .1 .0)
 
-  pub form-ways-some : 1 ≤ waysOf (used (prefixAt t b))
-  form-ways-some =
-      rw (node-ways (form .0) t (form .1 .0) b (form .1 .1 .0)) (ways-positive (nodeAt (nodesOf (form .0)) b .pre))
+  pub form-weaker-some : 1 ≤ weakerCountOf (used (prefixAt t b))
+  form-weaker-some =
+      rw (node-weaker (form .0) t (form .1 .0) b (form .1 .1 .0)) (weaker-count-positive (nodeAt (nodesOf (form .0)) b .pre))
 
-  pub form-ways-few : waysOf (used (prefixAt t b)) ≤ 16
-  form-ways-few =
-      rw (node-ways (form .0) t (form .1 .0) b (form .1 .1 .0))
-      (ways-bound (nodeAt (nodesOf (form .0)) b .pre) (pre-few (form .0) t (form .1 .0) b (form .1 .1 .0)))
+  pub form-weaker-few : weakerCountOf (used (prefixAt t b)) ≤ 16
+  form-weaker-few =
+      rw (node-weaker (form .0) t (form .1 .0) b (form .1 .1 .0))
+      (weaker-count-bound (nodeAt (nodesOf (form .0)) b .pre) (pre-few (form .0) t (form .1 .0) b (form .1 .1 .0)))

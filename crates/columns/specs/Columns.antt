@@ -6,8 +6,8 @@ use mathlib.Core.List.{List}
 use lib.ListN.{length, getD, set}
 use lib.Dec.{ltb, eqb}
 use Rattle.nodes.specs.Nodes.{nodeAt, countNodes, nodesOf}
-use Rattle.prefix.specs.Places.{used, prefixAt, waysOf}
-use Rattle.prefix.specs.Weaker.{waysTo}
+use Rattle.prefix.specs.Places.{used, prefixAt, weakerCountOf}
+use Rattle.prefix.specs.Weaker.{weakerCount}
 use Rattle.prefix.specs.Held.{NodesHeld}
 
 -- how many forms a node has at most: two to the number of places
@@ -48,27 +48,37 @@ rightColumn t cand owners i =
 unfoldable pub bottomColumn : List ℕ → List ℕ → List ℕ → ℕ → ℕ
 bottomColumn t cand owners i =
     let b = getD owners i 0 / stride in
-    getD cand (b * stride + (waysOf (used (prefixAt t b)) - 1)) 0
+    getD cand (b * stride + (weakerCountOf (used (prefixAt t b)) - 1)) 0
+
+unfoldable pub nothing : ℕ → ℕ
+nothing i = 0
+
+-- the six columns by number, no hypothesis marked
+unfoldable pub columnOf : List ℕ → List ℕ → List ℕ → List ℕ → ℕ → ℕ → ℕ
+columnOf t cand keys owners zero = kindColumn t owners
+columnOf t cand keys owners (suc zero) = putColumn keys
+columnOf t cand keys owners (suc (suc zero)) = leftColumn t cand owners
+columnOf t cand keys owners (suc (suc (suc zero))) = rightColumn t cand owners
+columnOf t cand keys owners (suc (suc (suc (suc zero)))) = bottomColumn t cand owners
+columnOf t cand keys owners (suc (suc (suc (suc (suc k))))) = nothing
 
 -- the table with the first n cells of a column set, the column beginning at a place
 unfoldable pub withColumn : ℕ → (ℕ → ℕ) → ℕ → List ℕ → List ℕ
 withColumn from f zero table = table
 withColumn from f (suc n) table = set (withColumn from f n table) (from + n) (f n)
 
-unfoldable pub nothing : ℕ → ℕ
-nothing i = 0
+-- the table with its first k columns set at the first n formulas, and with all
+unfoldable pub filledTo : ℕ → List ℕ → List ℕ → List ℕ → List ℕ → ℕ → List ℕ → List ℕ
+filledTo zero t cand keys owners n table = table
+filledTo (suc k) t cand keys owners n table =
+    withColumn (k * 4096) (columnOf t cand keys owners k) n (filledTo k t cand keys owners n table)
 
--- the table with all its columns set at the first n formulas, no hypothesis marked
 unfoldable pub filled : List ℕ → List ℕ → List ℕ → List ℕ → ℕ → List ℕ → List ℕ
-filled t cand keys owners n table =
-    withColumn 20480 nothing n
-    (withColumn 16384 (bottomColumn t cand owners) n
-    (withColumn 12288 (rightColumn t cand owners) n
-    (withColumn 8192 (leftColumn t cand owners) n (withColumn 4096 (putColumn keys) n (withColumn 0 (kindColumn t owners) n table)))))
+filled t cand keys owners n table = filledTo 6 t cand keys owners n table
 
 -- form m of node b, of some file whose node table this is
 abbrev pub IsForm : List ℕ → ℕ → ℕ → Type 0
-IsForm t b m = (file : List ℕ) × (NodesHeld file t × ((b < countNodes (nodesOf file)) × (m < waysTo (nodeAt (nodesOf file) b .pre))))
+IsForm t b m = (file : List ℕ) × (NodesHeld file t × ((b < countNodes (nodesOf file)) × (m < weakerCount (nodeAt (nodesOf file) b .pre))))
 
 -- the form of a base as which a formula was first listed, of some file whose node table this is
 abbrev pub IsOwner : List ℕ → List ℕ → ℕ → Type 0

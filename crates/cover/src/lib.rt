@@ -3,9 +3,9 @@
 use infon::Record;
 use infon::Way;
 use links::NEXTS;
-use rules::BOTTOM;
-use rules::LEFT;
-use rules::RIGHT;
+use table::BOTTOM;
+use table::LEFT;
+use table::RIGHT;
 use ways::Least;
 ghost use mathlib.Core.Path.{_≡_};
 ghost use mathlib.Core.Bool.{true};

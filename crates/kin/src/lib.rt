@@ -1,5 +1,9 @@
 // Which nodes of a file are akin: the same formula begins there, under the same principals. The bytes of the file are compared
 // here and nowhere else on the way to the list.
+use nodes::DEPTH;
+use nodes::END;
+use nodes::OWN;
+use nodes::PLACE;
 use prefix::Prefix;
 ghost use mathlib.Core.Path.{_≡_};
 ghost use Prim.Native.Nat.{_<_};
@@ -9,18 +13,6 @@ ghost use Rattle.nodes.specs.Nodes.{nodeAt, countNodes, nodesOf};
 ghost use Rattle.prefix.specs.Places.{Sized, used, EachPlace};
 ghost use Rattle.prefix.specs.Held.{NodesHeld};
 ghost use Rattle.kin.specs.Kin.{akinNodes, kinOf, principalText, samePlaces, Quoting};
-
-// Where the node table's columns begin: a node's first byte,
-const PLACE: usize = 1024;
-
-// its own bytes,
-const OWN: usize = 2048;
-
-// the number behind its last node,
-const END: usize = 3072;
-
-// and how many quotations are above it.
-const DEPTH: usize = 6144;
 
 // The formula that begins at node i, as the part of the file it stands on.
 fn text_of<'a>(file: &'a [u8], nodes: &[u16], i: usize) -> &'a [u8]

@@ -1,8 +1,8 @@
 // The chains along which a way is looked for: formulas that have the same left part, the same right part, or the same form with
 // put at every place.
-use rules::BOTTOM;
-use rules::LEFT;
-use rules::RIGHT;
+use table::BOTTOM;
+use table::LEFT;
+use table::RIGHT;
 ghost use mathlib.Core.Path.{_≡_};
 ghost use Prim.Native.Nat.{_+_, _<_, _≤_};
 ghost use lib.ListN.{length, getD};

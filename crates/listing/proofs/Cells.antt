@@ -17,11 +17,11 @@ use Rattle.infon.proofs.Rows.{decided}
 use Rattle.infon.proofs.Prefixes.{shape-wrap}
 use Rattle.nodes.specs.Nodes.{Node, nodeAt, countNodes, kindOf, nodesOf}
 use Rattle.table.specs.Table.{numberIn, noNumber, putMask, allPut, bottomOf, shapeKind, leftIn, rightIn}
-use Rattle.prefix.specs.Weaker.{waysTo, choose, inwards, isBase, formAt}
+use Rattle.prefix.specs.Weaker.{weakerCount, choose, inwards, isBase, formAt}
 use Rattle.prefix.specs.Held.{NodesHeld}
-use Rattle.prefix.proofs.Chosen.{choose-bottom, choose-last, choose-length, ways-positive, mask-bound}
-use Rattle.prefix.proofs.Shown.{kind-cell, count-few, pre-few, node-ways}
-use Rattle.prefix.proofs.Inside.{kind-quoted, quoted-high, base-kind, quoted-kind, inside-below, inside-ways, inside-form, Parts, left-below, right-below, left-form, right-form, left-ways, right-ways}
+use Rattle.prefix.proofs.Chosen.{choose-bottom, choose-last, choose-length, weaker-count-positive, mask-bound}
+use Rattle.prefix.proofs.Shown.{kind-cell, count-few, pre-few, node-weaker}
+use Rattle.prefix.proofs.Inside.{kind-quoted, quoted-high, base-kind, quoted-kind, inside-below, inside-weaker, inside-form, Parts, left-below, right-below, left-form, right-form, left-weaker, right-weaker}
 use Rattle.columns.specs.Columns.{stride, inwardKind, numberFrom, numberAt, kindColumn, putColumn, leftColumn, rightColumn, bottomColumn, IsForm, IsOwner}
 use Rattle.columns.proofs.Steps.{kind-inward, form-parts, right-number}
 use Rattle.listing.specs.Forms.{keyAt, Form, Owned, Placed}
@@ -63,7 +63,7 @@ module _ (file t : List ℕ) (held : NodesHeld file t) (fs : List Formula) (cand
   abbrev Down : ℕ → ℕ → ℕ → Type 0
   Down k j m = (numberFrom t cand k j m ≡ numberIn fs (formAt row j m)) × (isListed (formAt row j m) fs ≡ true)
 
-  number-down : (k j m : ℕ) → k ≡ 1024 - j → j < countNodes row → m < waysTo (nodeAt row j .pre) → Down k j m
+  number-down : (k j m : ℕ) → k ≡ 1024 - j → j < countNodes row → m < weakerCount (nodeAt row j .pre) → Down k j m
   unfolding numberFrom
   number-down zero j m e below less = absurd (omega (arith, count-few file t held))
   number-down (suc k) j m e below less =
@@ -80,12 +80,12 @@ module _ (file t : List ℕ) (held : NodesHeld file t) (fs : List Formula) (cand
       let what = quoting .1 .1 in
       let step : inwardKind (getD t j 0) m ≡ inwards (q .told) m = ap (λ (n : ℕ). inwardKind n m) (kind ∙ ap kindOf what) ∙ kind-inward q x m in
       let further =
-      number-down k (suc j) (inwards (q .told) m) (omega arith) (inside-below row j m below q x what) (inside-ways row j m below q x what less) in
+      number-down k (suc j) (inwards (q .told) m) (omega arith) (inside-below row j m below q x what) (inside-weaker row j m below q x what less) in
       let same = inside-form row j m below q x what in
       rw (high, step) (further .0 ∙ ap (numberIn fs) same, subst (λ (z : Formula). isListed z fs ≡ true) same (further .1)))
       (decided (ltb (getD t j 0) 4))
 
-  module _ (j m : ℕ) (below : j < countNodes row) (less : m < waysTo (nodeAt row j .pre)) where
+  module _ (j m : ℕ) (below : j < countNodes row) (less : m < weakerCount (nodeAt row j .pre)) where
     pub number-form : numberAt t cand j m ≡ numberIn fs (formAt row j m)
     unfolding numberAt
     number-form = number-down (1024 - j) j m refl below less .0
@@ -162,14 +162,14 @@ module _ (file t : List ℕ) (held : NodesHeld file t) (fs : List Formula) (cand
       left-number : numberAt t cand (b + 1) l ≡ numberIn fs (wrap w (parts .left))
       left-number =
           ap (λ (n : ℕ). numberAt t cand n l) (add-one b)
-          ∙ number-form (suc b) l (left-below row b (o .form .below) parts) (left-ways row b (o .form .below) parts l (o .form .less))
+          ∙ number-form (suc b) l (left-below row b (o .form .below) parts) (left-weaker row b (o .form .below) parts l (o .form .less))
           ∙ ap (numberIn fs) (left-form row b (o .form .below) parts l)
 
       right-number-is : numberAt t cand (getD t (3072 + (b + 1)) 0) l ≡ numberIn fs (wrap w (parts .right))
       right-number-is =
           ap (λ (n : ℕ). numberAt t cand n l) (right-number t b l form-here two (rw kind-here base-below))
           ∙ number-form (suc b + nodes (parts .left)) l (right-below row b (o .form .below) parts)
-          (right-ways row b (o .form .below) parts l (o .form .less))
+          (right-weaker row b (o .form .below) parts l (o .form .less))
           ∙ ap (numberIn fs) (right-form row b (o .form .below) parts l)
 
       left-shown : numberIn fs (wrap w (parts .left)) ≡ leftIn fs (shapeUnder w x)
@@ -215,22 +215,22 @@ module _ (file t : List ℕ) (held : NodesHeld file t) (fs : List Formula) (cand
         (decided (ltb (getD t b 0) 2)))
 
     -- the form with put at every place
-    last-form : formAt row b (waysTo (nodeAt row b .pre) - 1) ≡ bottomOf (numbered fs i)
+    last-form : formAt row b (weakerCount (nodeAt row b .pre) - 1) ≡ bottomOf (numbered fs i)
     unfolding formAt bottomOf
     last-form =
         ap₂ wrap
         (choose-last (nodeAt row b .pre) ∙ sym (choose-bottom (nodeAt row b .pre) l) ∙ ap allPut (sym prefix-is))
         (sym core-is)
 
-    last-placed : Placed row fs cand b (waysTo (nodeAt row b .pre) - 1)
+    last-placed : Placed row fs cand b (weakerCount (nodeAt row b .pre) - 1)
     last-placed =
-        placed b (waysTo (nodeAt row b .pre) - 1)
-        (record { below = o .form .below; base = o .form .base; less = omega (arith, ways-positive (nodeAt row b .pre)) })
+        placed b (weakerCount (nodeAt row b .pre) - 1)
+        (record { below = o .form .below; base = o .form .base; less = omega (arith, weaker-count-positive (nodeAt row b .pre)) })
 
     pub bottom-column : bottomColumn t cand owners i ≡ numberIn fs (bottomOf (numbered fs i))
     unfolding bottomColumn
     bottom-column =
-        rw (owner-node, node-ways file t held b (o .form .below)) (last-placed .number ∙ ap (numberIn fs) last-form)
+        rw (owner-node, node-weaker file t held b (o .form .below)) (last-placed .number ∙ ap (numberIn fs) last-form)
 
     pub bottom-listed : isListed (bottomOf (numbered fs i)) fs ≡ true
     bottom-listed = subst (λ (z : Formula). isListed z fs ≡ true) last-form (last-placed .listed)

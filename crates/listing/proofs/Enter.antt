@@ -19,7 +19,7 @@ use Rattle.table.proofs.Numbers.{numberIn-below}
 use Rattle.table.proofs.Growing.{numberIn-unlisted, numberIn-append, numberIn-last, listed-append, listed-last}
 use Rattle.nodes.specs.Nodes.{Node, nodeAt, countNodes}
 use Rattle.prefix.specs.Weaker.{formAt}
-use Rattle.prefix.proofs.Chosen.{ways-bound}
+use Rattle.prefix.proofs.Chosen.{weaker-count-bound}
 use Rattle.columns.specs.Columns.{stride}
 use Rattle.listing.specs.Forms.{placeIn, keyAt, Form, Owned, Placed, Entered}
 use Rattle.listing.proofs.Keys.{key-same, found-number}
@@ -46,7 +46,7 @@ still-numbered fs more k h = List·getD-append fs more True k h
 
 module _ (row : List Node) (shallow : (i : ℕ) → i < countNodes row → length (nodeAt row i .pre) ≤ 4) where
   pub form-few : (b l : ℕ) → Form row b l → l < 16
-  form-few b l form = omega (arith, form .less, ways-bound (nodeAt row b .pre) (shallow b (form .below)))
+  form-few b l form = omega (arith, form .less, weaker-count-bound (nodeAt row b .pre) (shallow b (form .below)))
 
   module _ (i m : ℕ) (fs : List Formula) (cand keys owners : List ℕ) (n : ℕ) (so : Entered row i m fs cand keys owners n)
       (form : Form row i m) (key at : ℕ) (key-is : key ≡ keyAt row i m) (found : at ≡ placeIn key (take n keys))

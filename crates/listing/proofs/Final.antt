@@ -2,7 +2,7 @@
 -- Assumes nothing.
 use Prim.Native.Nat.{ℕ, zero, suc, _+_, _*_, _≤_, _<_}
 use native.Mathlib.Omega.{arith}
-use mathlib.Core.Path.{_≡_, refl, sym, _∙_, ap, ap₂, subst}
+use mathlib.Core.Path.{_≡_, refl, _∙_, ap, ap₂, subst}
 use mathlib.Core.Logic.{_⊎_, inl, inr, ⊎-elim}
 use mathlib.Core.Bool.{true, false}
 use mathlib.Core.List.{List}
@@ -19,8 +19,8 @@ use Rattle.infon.proofs.Listed.{PartsIn, list-shape-closed, numbered-mem, numbe
 use Rattle.nodes.specs.Nodes.{Node, countNodes, nodesOf}
 use Rattle.table.specs.Table.{cellOf, tableRows, tableColumns, cell, partsListed}
 use Rattle.prefix.proofs.Shown.{table-long}
-use Rattle.columns.specs.Columns.{stride, filled, IsOwner, Room}
-use Rattle.columns.proofs.Filled.{filled-length, filled-kinds, filled-puts, filled-lefts, filled-rights, filled-bottoms, filled-zeros, filled-others}
+use Rattle.columns.specs.Columns.{stride, nothing, columnOf, filled, IsOwner, Room}
+use Rattle.columns.proofs.Filled.{filled-length, filled-cell, filled-others}
 use Rattle.listing.specs.declared.Counted.the-variants.{Formulas, Over}
 use Rattle.listing.specs.declared.Listing.the-variants.{Listed, TooMany}
 use Rattle.listing.specs.Forms.{Form, Owned, Placed, Entered}
@@ -116,49 +116,35 @@ module _ (file t : List ℕ) (count : ℕ) (table queries cand keys owners : Lis
   -- the columns are set
   module _ (set-table : List ℕ) (set-is : set-table ≡ filled t cand keys owners n table) where
     set-length : length set-table ≡ length table
-    set-length = ap length set-is ∙ filled-length t cand keys owners n table few-n long
-      where
-        few-n : n ≤ 4096
-        few-n = omega (arith, n-is, few)
-
-    n-few : n ≤ 4096
-    n-few = omega (arith, n-is, few)
-
-    below : (i : ℕ) → i < length fs → i < n
-    below i h = subst (λ (k : ℕ). i < k) (sym n-is) h
+    set-length = ap length set-is ∙ filled-length t cand keys owners n table
 
     at : (j : ℕ) → getD set-table j 0 ≡ getD (filled t cand keys owners n table) j 0
     at j = ap (λ (s : List ℕ). getD s j 0) set-is
 
+    set-cell : (k i : ℕ) → k < 6 → i < length fs → getD set-table (k * 4096 + i) 0 ≡ columnOf t cand keys owners k i
+    set-cell k i less h = at (k * 4096 + i) ∙ filled-cell t cand keys owners n table (omega (arith, n-is, few)) long k i less (omega (arith, n-is))
+
     pub now-clear : Clear file set-table
-    now-clear =
-        record {
-          long = omega (arith, set-length, long);
-          zeros = λ k h. at (20480 + k) ∙ filled-zeros t cand keys owners n table n-few long k (below k h);
-        }
+    unfolding columnOf nothing
+    now-clear = record { long = omega (arith, set-length, long); zeros = λ k h. set-cell 5 k (omega arith) h }
 
     -- the hypotheses are marked
     module _ (last : List ℕ) (marked : HypothesesMarked file set-table last) where
-      from-set : (j : ℕ) → j < 20480 → getD last j 0 ≡ getD (filled t cand keys owners n table) j 0
-      from-set j h = marked .others j (inl h) ∙ at j
+      last-cell : (k i : ℕ) → k < 5 → i < length fs → getD last (k * 4096 + i) 0 ≡ columnOf t cand keys owners k i
+      last-cell k i less h = marked .others (k * 4096 + i) (inl (omega (arith, few))) ∙ set-cell k i (omega arith) h
 
       cells : (k i : ℕ) → k < tableColumns → i < length fs → cell last k i ≡ cellOf k (hypothesesOf es) fs (numbered fs i)
-      unfolding tableColumns tableRows cellOf
+      unfolding tableColumns tableRows cellOf columnOf
       cells zero i less h =
-          from-set (0 + i) (omega (arith, few)) ∙ filled-kinds t cand keys owners n table n-few long i (below i h)
-          ∙ kind-column file t (whole .ready .held) fs cand placed keys owners i (owned i h)
+          last-cell 0 i (omega arith) h ∙ kind-column file t (whole .ready .held) fs cand placed keys owners i (owned i h)
       cells (suc zero) i less h =
-          from-set (4096 + i) (omega (arith, few)) ∙ filled-puts t cand keys owners n table n-few long i (below i h)
-          ∙ put-column file t (whole .ready .held) fs cand placed keys owners i (owned i h)
+          last-cell 1 i (omega arith) h ∙ put-column file t (whole .ready .held) fs cand placed keys owners i (owned i h)
       cells (suc (suc zero)) i less h =
-          from-set (8192 + i) (omega (arith, few)) ∙ filled-lefts t cand keys owners n table n-few long i (below i h)
-          ∙ left-column file t (whole .ready .held) fs cand placed keys owners i (owned i h)
+          last-cell 2 i (omega arith) h ∙ left-column file t (whole .ready .held) fs cand placed keys owners i (owned i h)
       cells (suc (suc (suc zero))) i less h =
-          from-set (12288 + i) (omega (arith, few)) ∙ filled-rights t cand keys owners n table n-few long i (below i h)
-          ∙ right-column file t (whole .ready .held) fs cand placed keys owners i (owned i h)
+          last-cell 3 i (omega arith) h ∙ right-column file t (whole .ready .held) fs cand placed keys owners i (owned i h)
       cells (suc (suc (suc (suc zero)))) i less h =
-          from-set (16384 + i) (omega (arith, few)) ∙ filled-bottoms t cand keys owners n table n-few long i (below i h)
-          ∙ bottom-column file t (whole .ready .held) fs cand placed keys owners i (owned i h)
+          last-cell 4 i (omega arith) h ∙ bottom-column file t (whole .ready .held) fs cand placed keys owners i (owned i h)
       cells (suc (suc (suc (suc (suc zero))))) i less h = marked .cells i h
       cells (suc (suc (suc (suc (suc (suc k)))))) i less h = absurd (omega arith)
 
@@ -166,7 +152,7 @@ module _ (file t : List ℕ) (count : ℕ) (table queries cand keys owners : Lis
       others-by k i less behind =
           marked .others (k * 4096 + i) (outside k)
           ∙ at (k * 4096 + i)
-          ∙ filled-others t cand keys owners n table n-few long k i less (omega (arith, n-is))
+          ∙ filled-others t cand keys owners n table k i less (omega (arith, n-is))
         where
           outside : (k : ℕ) → (k * 4096 + i < 20480) ⊎ (20480 + length fs ≤ k * 4096 + i)
           outside k =

@@ -1,6 +1,7 @@
 -- The lines of a file, one by one: what letter each begins with, and how the nodes lead from one to the next.
 -- Assumes nothing.
 use Prim.Native.Nat.{ℕ, _+_, _≤_, _<_}
+use Prim.Native.Char.{code}
 use native.Mathlib.Omega.{arith}
 use mathlib.Core.Path.{_≡_, refl, sym, _∙_, ap}
 use mathlib.Core.Option.{Option, none, some}
@@ -15,12 +16,12 @@ use Rattle.infon.proofs.Lines.{cut-concat, lineOf, line-read}
 use Rattle.nodes.specs.Nodes.{Node, root, after, nowhere, nodeAt, roots, countNodes, nodesOf}
 use Rattle.nodes.proofs.Order.{after-none, node-first, node-behind, node-within}
 use Rattle.nodes.proofs.Spelled.{Stands, stands-byte}
-use Rattle.prefix.specs.Weaker.{waysTo, choose, formAt}
+use Rattle.prefix.specs.Weaker.{weakerCount, choose, formAt}
 
 -- the first byte of a line
 unfoldable pub letterByte : Sentence → ℕ
-letterByte (hypothesis x) = 72
-letterByte (query x) = 81
+letterByte (hypothesis x) = code "H"
+letterByte (query x) = code "Q"
 
 abbrev pub Letters : List ℕ → List Entry → Type 0
 Letters file [] = Unit {0}
@@ -119,6 +120,6 @@ module _ (file : List ℕ) (r : ℕ) (es : List Entry) (next : NextLine file r e
   line-form =
       ap (λ (w : Prefix). wrap (choose w 0) (nodeAt (nodesOf file) r .what)) (next .pre) ∙ next .what
 
-  pub line-ways : 0 < waysTo (nodeAt (nodesOf file) r .pre)
-  unfolding waysTo
-  line-ways = rw (next .pre) (omega arith)
+  pub line-weaker : 0 < weakerCount (nodeAt (nodesOf file) r .pre)
+  unfolding weakerCount
+  line-weaker = rw (next .pre) (omega arith)

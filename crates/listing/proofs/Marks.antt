@@ -28,7 +28,7 @@ use Rattle.prefix.proofs.Shown.{count-few, end-cell, line-cell}
 use Rattle.columns.specs.Columns.{numberAt, IsForm}
 use Rattle.listing.specs.Lines.{LinesReady, markedBy, askedBy, askedIn, Clear, HypothesesMarked, QueriesNumbered}
 use Rattle.listing.proofs.Cells.{number-form, form-listed}
-use Rattle.listing.proofs.Letters.{letterByte, LinesAhead, all-ahead, NextLine, next-line, none-ahead, line-form, line-ways}
+use Rattle.listing.proofs.Letters.{letterByte, LinesAhead, all-ahead, NextLine, next-line, none-ahead, line-form, line-weaker}
 
 -- One line.
 module _ (file t : List ℕ) (count : ℕ) (cand : List ℕ) (ready : LinesReady file t count cand) (r : ℕ) (es : List Entry)
@@ -46,16 +46,16 @@ module _ (file t : List ℕ) (count : ℕ) (cand : List ℕ) (ready : LinesReady
   x = formulaIn (this .entry .sentence)
 
   pub line-is-form : IsForm t r 0
-  line-is-form = (file, (ready .held, (line-below, line-ways file r es this)))
+  line-is-form = (file, (ready .held, (line-below, line-weaker file r es this)))
 
   pub line-number : numberAt t cand r 0 ≡ numberIn fs x
   line-number =
-      number-form file t (ready .held) fs cand (ready .placed) r 0 line-below (line-ways file r es this) ∙ ap (numberIn fs) (line-form file r es this)
+      number-form file t (ready .held) fs cand (ready .placed) r 0 line-below (line-weaker file r es this) ∙ ap (numberIn fs) (line-form file r es this)
 
   pub line-listed : isListed x fs ≡ true
   line-listed =
       subst (λ (z : Formula). isListed z fs ≡ true) (line-form file r es this)
-      (form-listed file t (ready .held) fs cand (ready .placed) r 0 line-below (line-ways file r es this))
+      (form-listed file t (ready .held) fs cand (ready .placed) r 0 line-below (line-weaker file r es this))
 
   pub line-number-few : numberAt t cand r 0 < length fs
   line-number-few = rw line-number (numberIn-below fs x line-listed)

@@ -16,11 +16,11 @@ use Rattle.infon.specs.Listing.{weakened, enlist, listOf, mostListed, code5}
 use Rattle.infon.proofs.Rows.{decided}
 use Rattle.nodes.specs.Nodes.{Node, after, nodeAt, roots, countNodes, nodesOf}
 use Rattle.prefix.specs.declared.Prefix.{Prefix}
-use Rattle.prefix.specs.Places.{used, prefixAt, waysOf}
-use Rattle.prefix.specs.Weaker.{waysTo, isBase}
+use Rattle.prefix.specs.Places.{used, prefixAt, weakerCountOf}
+use Rattle.prefix.specs.Weaker.{weakerCount, isBase}
 use Rattle.prefix.specs.Held.{NodesHeld}
-use Rattle.prefix.proofs.Chosen.{ways-bound}
-use Rattle.prefix.proofs.Shown.{kind-cell, line-cell, count-few, pre-few, prefix-sized, node-ways, node-puts}
+use Rattle.prefix.proofs.Chosen.{weaker-count-bound}
+use Rattle.prefix.proofs.Shown.{kind-cell, line-cell, count-few, pre-few, prefix-sized, node-weaker, node-puts}
 use Rattle.prefix.proofs.Inside.{base-kind, quoted-kind}
 use Rattle.kin.specs.Kin.{kinOf}
 use Rattle.kin.proofs.Same.{kin-most}
@@ -76,8 +76,8 @@ module _ (file t : List ℕ) (i : ℕ) (cand keys owners : List ℕ) (n : ℕ) (
     base-here : isBase (nodeAt row i .what) ≡ true
     base-here = base-kind (nodeAt row i .what) (subst (λ (k : ℕ). k < 4) (kind-cell file t (ready .held) i (ready .below)) h)
 
-    ways-here : waysOf (used p) ≡ waysTo (nodeAt row i .pre)
-    ways-here = ap (λ (q : Prefix). waysOf (used q)) p-is ∙ node-ways file t (ready .held) i (ready .below)
+    weaker-here : weakerCountOf (used p) ≡ weakerCount (nodeAt row i .pre)
+    weaker-here = ap (λ (q : Prefix). weakerCountOf (used q)) p-is ∙ node-weaker file t (ready .held) i (ready .below)
 
     pub base-of : BaseOf row p kin i
     base-of =
@@ -85,7 +85,7 @@ module _ (file t : List ℕ) (i : ℕ) (cand keys owners : List ℕ) (n : ℕ) (
           shallow = pre-few file t (ready .held);
           below = ready .below;
           is-base = base-here;
-          ways-are = ways-here;
+          weaker-are = weaker-here;
           puts-are = λ m. rw p-is (node-puts file t (ready .held) i (ready .below) m);
           kin-is = kin-is;
         }
@@ -95,7 +95,7 @@ module _ (file t : List ℕ) (i : ℕ) (cand keys owners : List ℕ) (n : ℕ) (
         let below : i < 1024 = omega (arith, ready .below, count-few file t (ready .held)) in
         record {
           sized = rw p-is (prefix-sized file t (ready .held) i (ready .below));
-          few-ways = rw ways-here (ways-bound (nodeAt row i .pre) (pre-few file t (ready .held) i (ready .below)));
+          few-weaker = rw weaker-here (weaker-count-bound (nodeAt row i .pre) (pre-few file t (ready .held) i (ready .below)));
           kin-few = omega (arith, kin-is, kin-most row i);
           base-few = below;
           count-few = ready .few;
@@ -105,11 +105,11 @@ module _ (file t : List ℕ) (i : ℕ) (cand keys owners : List ℕ) (n : ℕ) (
         }
 
     pub base-entered : (cand' keys' owners' : List ℕ) (r : ℕ)
-        → Entered row i (waysTo (nodeAt row i .pre)) (enlist (listedTo row i) (weakened (nodeAt row i .pre) (nodeAt row i .what))) cand' keys' owners' r
+        → Entered row i (weakerCount (nodeAt row i .pre)) (enlist (listedTo row i) (weakened (nodeAt row i .pre) (nodeAt row i .what))) cand' keys' owners' r
         → Entered row (i + 1) 0 (listedTo row (suc i)) cand' keys' owners' r
     base-entered cand' keys' owners' r so =
         subst (λ (fs : List Formula). Entered row (i + 1) 0 fs cand' keys' owners' r) (base-listed row i base-here)
-        (next-node row i (waysTo (nodeAt row i .pre)) (enlist (listedTo row i) (weakened (nodeAt row i .pre) (nodeAt row i .what))) cand' keys' owners' r
+        (next-node row i (weakerCount (nodeAt row i .pre)) (enlist (listedTo row i) (weakened (nodeAt row i .pre) (nodeAt row i .what))) cand' keys' owners' r
         so (λ l form. form .less))
 
 -- The loop over the nodes.

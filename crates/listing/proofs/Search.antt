@@ -16,8 +16,8 @@ use Rattle.infon.specs.Listing.{weakened, enlist, mostListed}
 use Rattle.infon.proofs.Listed.{enlist-append}
 use Rattle.nodes.specs.Nodes.{Node, nodeAt}
 use Rattle.prefix.specs.declared.Prefix.{Prefix}
-use Rattle.prefix.specs.Places.{Sized, used, waysOf, weakerAt, putsOf}
-use Rattle.prefix.specs.Weaker.{waysTo, formAt}
+use Rattle.prefix.specs.Places.{Sized, used, weakerCountOf, weakerAt, putsOf}
+use Rattle.prefix.specs.Weaker.{weakerCount, formAt}
 use Rattle.prefix.proofs.Loops.{puts-few}
 use Rattle.prefix.proofs.Shown.{weaker-sized}
 use Rattle.prefix.proofs.Chosen.{weakened-count, weakened-at}
@@ -83,7 +83,7 @@ forms-begin p kin base cand keys owners count row fs of so = so
 
 module _ (p : Prefix) (kin base : ℕ) (cand₀ keys₀ owners₀ : List ℕ) (count m : ℕ) (cand keys owners : List ℕ) (n : ℕ)
     (so : FormsTo p kin base cand₀ keys₀ owners₀ count m cand keys owners n) where
-  pub forms-turn : (key at : ℕ) → m < waysOf (used p) → key ≡ kin * stride + putsOf (used (weakerAt p m)) → at ≡ placeIn key (take n keys)
+  pub forms-turn : (key at : ℕ) → m < weakerCountOf (used p) → key ≡ kin * stride + putsOf (used (weakerAt p m)) → at ≡ placeIn key (take n keys)
       → n < length keys → n < length owners → base * stride + m < length cand
       → FormsTo p kin base cand₀ keys₀ owners₀ count (m + 1) (set cand (base * stride + m) at) (set keys n key) (set owners n (base * stride + m))
       (cond (ltb at n) n (n + 1))
@@ -91,7 +91,7 @@ module _ (p : Prefix) (kin base : ℕ) (cand₀ keys₀ owners₀ : List ℕ) (c
   forms-turn key at h key-is found room room-too inside row fs of start =
       let pre = nodeAt row base .pre in
       let what = nodeAt row base .what in
-      let less : m < waysTo pre = subst (λ (k : ℕ). m < k) (of .ways-are) h in
+      let less : m < weakerCount pre = subst (λ (k : ℕ). m < k) (of .weaker-are) h in
       let form : Form row base m = record { below = of .below; base = of .is-base; less = less } in
       let key-at : key ≡ keyAt row base m = key-is ∙ ap₂ (λ (a b : ℕ). a * stride + b) (of .kin-is) (of .puts-are m) in
       let xs = weakened pre what in
@@ -105,13 +105,13 @@ module _ (p : Prefix) (kin base : ℕ) (cand₀ keys₀ owners₀ : List ℕ) (c
       more
       (entered row (of .shallow) base m (enlist fs (take m xs)) cand keys owners n (so row fs of start) form key at key-at found room room-too inside)
 
-  pub forms-over : waysOf (used p) ≤ m → m ≤ waysOf (used p) → (row : List Node) (fs : List Formula) → BaseOf row p kin base
+  pub forms-over : weakerCountOf (used p) ≤ m → m ≤ weakerCountOf (used p) → (row : List Node) (fs : List Formula) → BaseOf row p kin base
       → Entered row base 0 fs cand₀ keys₀ owners₀ count
-      → Entered row base (waysTo (nodeAt row base .pre)) (enlist fs (weakened (nodeAt row base .pre) (nodeAt row base .what))) cand keys owners n
+      → Entered row base (weakerCount (nodeAt row base .pre)) (enlist fs (weakened (nodeAt row base .pre) (nodeAt row base .what))) cand keys owners n
   forms-over low high row fs of start =
       let pre = nodeAt row base .pre in
       let what = nodeAt row base .what in
-      let e : m ≡ waysTo pre = omega (arith, of .ways-are) in
+      let e : m ≡ weakerCount pre = omega (arith, of .weaker-are) in
       subst (λ (k : ℕ). Entered row base k (enlist fs (weakened pre what)) cand keys owners n) e
       (subst (λ (xs : List Formula). Entered row base m (enlist fs xs) cand keys owners n)
       (take-all m (weakened pre what) (omega (arith, weakened-count pre what))) (so row fs of start))
@@ -145,22 +145,22 @@ next-few n at count m h = by (ltb at n)
     by false = omega arith
 
 module _ (p : Prefix) (kin base : ℕ) (cand₀ keys₀ owners₀ : List ℕ) (count all : ℕ) (cand keys owners : List ℕ) (n m : ℕ)
-    (ready : Ready p kin base cand₀ keys₀ owners₀ count) (all-are : all ≡ waysOf (used p))
+    (ready : Ready p kin base cand₀ keys₀ owners₀ count) (all-are : all ≡ weakerCountOf (used p))
     (so : Turning p kin base cand₀ keys₀ owners₀ count all cand keys owners n m) (h : m < all) where
   pub key-room : n < length keys
   unfolding mostListed
-  key-room = omega (arith, so .few, so .keys-size, ready .keys-long, ready .count-few, ready .few-ways)
+  key-room = omega (arith, so .few, so .keys-size, ready .keys-long, ready .count-few, ready .few-weaker)
 
   pub owner-room : n < length owners
   unfolding mostListed
-  owner-room = omega (arith, so .few, so .owners-size, ready .owners-long, ready .count-few, ready .few-ways)
+  owner-room = omega (arith, so .few, so .owners-size, ready .owners-long, ready .count-few, ready .few-weaker)
 
   pub form-room : base * stride + m < length cand
-  form-room = omega (arith, so .cand-size, ready .cand-long, ready .base-few, ready .few-ways)
+  form-room = omega (arith, so .cand-size, ready .cand-long, ready .base-few, ready .few-weaker)
 
   pub listed-few : n < 4112
   unfolding mostListed
-  listed-few = omega (arith, so .few, ready .count-few, ready .few-ways)
+  listed-few = omega (arith, so .few, ready .count-few, ready .few-weaker)
 
   pub turning-on : (puts key at next : ℕ) → puts ≡ putsOf (used (weakerAt p m)) → key ≡ kin * stride + puts → at ≡ placeIn key (take n keys)
       → next ≡ cond (ltb at n) n (n + 1)

@@ -12,8 +12,8 @@ use Rattle.infon.specs.Rules.{numbered}
 use Rattle.nodes.specs.Nodes.{Node, nodeAt, countNodes}
 use Rattle.table.specs.Table.{numberIn, putMask}
 use Rattle.prefix.specs.declared.Prefix.{Prefix}
-use Rattle.prefix.specs.Places.{Sized, used, waysOf, weakerAt, putsOf}
-use Rattle.prefix.specs.Weaker.{waysTo, choose, isBase, formAt}
+use Rattle.prefix.specs.Places.{Sized, used, weakerCountOf, weakerAt, putsOf}
+use Rattle.prefix.specs.Weaker.{weakerCount, choose, isBase, formAt}
 use Rattle.kin.specs.Kin.{kinOf}
 use Rattle.columns.specs.Columns.{stride}
 
@@ -41,7 +41,7 @@ keyAt row b m = kinOf row b * stride + putMask (choose (nodeAt row b .pre) m)
 pub record Form (row : List Node) (b l : ℕ) : Type 0 where
   pub below : b < countNodes row
   pub base : isBase (nodeAt row b .what) ≡ true
-  pub less : l < waysTo (nodeAt row b .pre)
+  pub less : l < weakerCount (nodeAt row b .pre)
 
 -- formula number k was first listed as a form, which its owner tells, and its key is that form's
 pub record Owned (row : List Node) (fs : List Formula) (keys owners : List ℕ) (k : ℕ) : Type 0 where
@@ -68,14 +68,14 @@ pub record BaseOf (row : List Node) (p : Prefix) (kin base : ℕ) : Type 0 where
   pub shallow : (i : ℕ) → i < countNodes row → length (nodeAt row i .pre) ≤ 4
   pub below : base < countNodes row
   pub is-base : isBase (nodeAt row base .what) ≡ true
-  pub ways-are : waysOf (used p) ≡ waysTo (nodeAt row base .pre)
+  pub weaker-are : weakerCountOf (used p) ≡ weakerCount (nodeAt row base .pre)
   pub puts-are : (m : ℕ) → putsOf (used (weakerAt p m)) ≡ putMask (choose (nodeAt row base .pre) m)
   pub kin-is : kin ≡ kinOf row base
 
 -- what is asked where the forms of a base are listed: sizes only
 pub record Ready (p : Prefix) (kin base : ℕ) (cand keys owners : List ℕ) (count : ℕ) : Type 0 where
   pub sized : Sized p
-  pub few-ways : waysOf (used p) ≤ stride
+  pub few-weaker : weakerCountOf (used p) ≤ stride
   pub kin-few : kin < 1024
   pub base-few : base < 1024
   pub count-few : count ≤ mostListed
@@ -87,4 +87,4 @@ pub record Ready (p : Prefix) (kin base : ℕ) (cand keys owners : List ℕ) (co
 abbrev pub FormsEntered : Prefix → ℕ → ℕ → List ℕ → List ℕ → List ℕ → ℕ → List ℕ → List ℕ → List ℕ → ℕ → Type 0
 FormsEntered p kin base cand keys owners count cand' keys' owners' r =
     (row : List Node) (fs : List Formula) → BaseOf row p kin base → Entered row base 0 fs cand keys owners count
-    → Entered row base (waysTo (nodeAt row base .pre)) (enlist fs (weakened (nodeAt row base .pre) (nodeAt row base .what))) cand' keys' owners' r
+    → Entered row base (weakerCount (nodeAt row base .pre)) (enlist fs (weakened (nodeAt row base .pre) (nodeAt row base .what))) cand' keys' owners' r

@@ -1,5 +1,6 @@
 -- What the lines of a file say of the list: which formulas are hypotheses, and which numbers the queries have.
 use Prim.Native.Nat.{ℕ, _+_, _*_, _≤_, _<_}
+use Prim.Native.Char.{code}
 use mathlib.Core.Path.{_≡_}
 use mathlib.Core.Logic.{_⊎_}
 use mathlib.Core.Bool.{cond}
@@ -26,13 +27,13 @@ pub record LinesReady (file t : List ℕ) (count : ℕ) (cand : List ℕ) : Type
 
 -- a cell of the hypothesis column, and a query's number, after a line
 unfoldable pub markedBy : ℕ → ℕ → ℕ
-markedBy letter old = cond (eqb letter 72) 1 old
+markedBy letter old = cond (eqb letter (code "H")) 1 old
 
 unfoldable pub askedBy : ℕ → ℕ → ℕ
-askedBy letter q = cond (eqb letter 81) (q + 1) q
+askedBy letter q = cond (eqb letter (code "Q")) (q + 1) q
 
 unfoldable pub askedIn : ℕ → ℕ → ℕ → List ℕ → List ℕ
-askedIn letter number q queries = cond (eqb letter 81) (set queries q number) queries
+askedIn letter number q queries = cond (eqb letter (code "Q")) (set queries q number) queries
 
 -- the hypothesis column is clear, and then it is marked
 pub record Clear (file table : List ℕ) : Type 0 where

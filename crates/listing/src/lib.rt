@@ -1,7 +1,10 @@
 // The list of formulas that matter, and the formula table: all bases in order, each weaker prefix in order, each formula found
-// among those listed or put behind them. Form m of node b, its formula under weaker prefix number m, stands at b * WAYS + m: `cand`
+// among those listed or put behind them. Form m of node b, its formula under weaker prefix number m, stands at b * STRIDE + m: `cand`
 // has the number of every form of a base, `owners` the form as which a formula was first listed, `keys` that form's key.
-use columns::WAYS;
+use columns::STRIDE;
+use nodes::END;
+use nodes::LINE;
+use nodes::SAID;
 use prefix::Prefix;
 ghost use mathlib.Core.Path.{_≡_};
 ghost use mathlib.Core.Bool.{cond};
@@ -24,14 +27,8 @@ const FORMS: usize = 16384;
 // Room for a list that the last base takes over the limit.
 const ROOM: usize = 4112;
 
-// Where the node table's column begins that tells the number behind a node's last node.
-const END: usize = 3072;
-
-// Where the node table's column begins that tells the start of a node's line.
-const LINE: usize = 5120;
-
 // Where the formula table's column of hypotheses begins.
-const HYPOTHESES: usize = 20480;
+const HYPOTHESES: usize = table::HYPOTHESIS * table::ROWS;
 
 // Where a formula with this key stands among the first n, n where it is new.
 fn find(keys: &[u32], n: usize, key: u32) -> usize
@@ -72,14 +69,14 @@ fn list_forms(
     requires { ⌜ Ready p kin base (now cand) (now keys) (now owners) count ⌝ }
     ensures { λ r. ⌜ FormsEntered p kin base (now (cand .entry)) (now (keys .entry)) (now (owners .entry)) count (now (cand .exit)) (now (keys .exit)) (now (owners .exit)) r ⌝ }
 {
-    let all = prefix::ways(p);
+    let all = prefix::weaker_count(p);
     let mut n = count;
     let mut m = 0;
     while m < all {
         let puts = prefix::puts(prefix::weaker(p, m));
-        let key = (kin * WAYS + puts) as u32;
+        let key = (kin * STRIDE + puts) as u32;
         let at = find(keys, n, key);
-        let form = base * WAYS + m;
+        let form = base * STRIDE + m;
         cand[form] = at as u16;
         keys[n] = key;
         owners[n] = form as u32;
@@ -102,7 +99,7 @@ fn list_node(
     requires { ⌜ NodeReady (now file) (now nodes) i (now cand) (now keys) (now owners) n ⌝ }
     ensures { λ r. ⌜ Entered (nodesOf (now (file .entry))) (i + 1) 0 (listedTo (nodesOf (now (file .entry))) (suc i)) (now (cand .exit)) (now (keys .exit)) (now (owners .exit)) r ⌝ }
 {
-    if 4 <= nodes[i] {
+    if SAID <= nodes[i] {
         return n;
     }
     let kin = kin::first_akin(file, nodes, i);

@@ -18,18 +18,18 @@ ghost use Rattle.infon.specs.Policy.{entriesOf, passed, code2, code3};
 ghost use Rattle.nodes.specs.Nodes.{nodeCell};
 ghost use Rattle.policy.specs.Filling.{cellAt, tableSize, kindNumber, firstCell, endedCell, endFrom, EndReads, handedDown, Begun, Holding, Passes};
 
-// the kinds
-const TRUE: usize = 0;
+// The kinds, as wide as `cell` gives them.
+const TRUE: usize = nodes::TRUE as usize;
 
-const NAME: usize = 1;
+const NAME: usize = nodes::NAME as usize;
 
-const AND: usize = 2;
+const AND: usize = nodes::AND as usize;
 
-const IMPLIES: usize = 3;
+const IMPLIES: usize = nodes::IMPLIES as usize;
 
-const SAID: usize = 4;
+const SAID: usize = nodes::SAID as usize;
 
-const PUT: usize = 5;
+const PUT: usize = nodes::PUT as usize;
 
 // A node's kind as the table has it. (`Bad` is never met where a node begins.)
 fn kind_number(node: Parsed) -> usize

@@ -1,25 +1,24 @@
 // The node table: seven columns of 1,024 cells, one column behind the other.
+use nodes::ROWS;
 ghost use mathlib.Core.Path.{_≡_};
 ghost use Prim.Native.Nat.{ℕ, _<_};
 ghost use lib.ListN.{length};
 ghost use Rattle.policy.specs.Filling.{cellAt, put, tableSize, spotted, abovePut};
 
-const ROWS: usize = 1024;
+// The columns by number.
+pub const KIND: usize = nodes::KIND / ROWS;
 
-// the columns
-pub const KIND: usize = 0;
+pub const PLACE: usize = nodes::PLACE / ROWS;
 
-pub const PLACE: usize = 1;
+pub const OWN: usize = nodes::OWN / ROWS;
 
-pub const OWN: usize = 2;
+pub const END: usize = nodes::END / ROWS;
 
-pub const END: usize = 3;
+pub const ABOVE: usize = nodes::ABOVE / ROWS;
 
-pub const ABOVE: usize = 4;
+pub const LINE: usize = nodes::LINE / ROWS;
 
-pub const LINE: usize = 5;
-
-pub const DEPTH: usize = 6;
+pub const DEPTH: usize = nodes::DEPTH / ROWS;
 
 // stands for no quotation above
 const NONE_ABOVE: usize = 0xFFFF;

@@ -13,7 +13,7 @@ use Rattle.infon.specs.Listing.{Prefix, wrap, weakerTold, inside, insideEach, w
 use Rattle.table.specs.Table.{putBit, putMask, allPut}
 use Rattle.table.proofs.Weakened.{mask-below}
 use Rattle.prefix.specs.Places.{branches, laterBits}
-use Rattle.prefix.specs.Weaker.{isSaid, loweredTold, waysTo, choose, inwards}
+use Rattle.prefix.specs.Weaker.{isSaid, loweredTold, weakerCount, choose, inwards}
 
 -- One place more: the weaker prefixes come in pairs behind a said place, and one by one behind a put place.
 abbrev asPut : List ℕ → Quotation
@@ -55,10 +55,10 @@ unfolding isSaid branches
 place-count said p rows = pairs-count p rows
 place-count put p rows = singles-count p rows
 
-pub ways-counted : (w : Prefix) → length (weakerPrefixes w) ≡ waysTo w
-unfolding weakerPrefixes waysTo
-ways-counted [] = refl
-ways-counted (q ∷ outer) = place-count (q .told) (q .principal) (weakerPrefixes outer) ∙ ap (branches (isSaid (q .told))) (ways-counted outer)
+pub weaker-counted : (w : Prefix) → length (weakerPrefixes w) ≡ weakerCount w
+unfolding weakerPrefixes weakerCount
+weaker-counted [] = refl
+weaker-counted (q ∷ outer) = place-count (q .told) (q .principal) (weakerPrefixes outer) ∙ ap (branches (isSaid (q .told))) (weaker-counted outer)
 
 place-chosen : (told : Told) (p : List ℕ) (rows : List Prefix) (m : ℕ) → m < branches (isSaid told) (length rows)
     → getD (insideEach (record { told = told; principal = p }) rows) m []
@@ -73,20 +73,20 @@ later-below said m n h = omega arith
 later-below put m n h = h
 
 -- "`said` before `put`, the outermost place weighing most": weaker prefix number m stands at place m
-pub choose-weaker : (w : Prefix) (m : ℕ) → m < waysTo w → getD (weakerPrefixes w) m [] ≡ choose w m
-unfolding weakerPrefixes waysTo choose
+pub choose-weaker : (w : Prefix) (m : ℕ) → m < weakerCount w → getD (weakerPrefixes w) m [] ≡ choose w m
+unfolding weakerPrefixes weakerCount choose
 choose-weaker [] m h = let e : m ≡ 0 = omega arith in rw e
 choose-weaker (q ∷ outer) m h =
-    place-chosen (q .told) (q .principal) (weakerPrefixes outer) m (rw (ways-counted outer) h)
+    place-chosen (q .told) (q .principal) (weakerPrefixes outer) m (rw (weaker-counted outer) h)
     ∙ ap (λ (v : Prefix). record { told = loweredTold (q .told) m; principal = q .principal } ∷ v)
-    (choose-weaker outer (laterBits (isSaid (q .told)) m) (later-below (q .told) m (waysTo outer) h))
+    (choose-weaker outer (laterBits (isSaid (q .told)) m) (later-below (q .told) m (weakerCount outer) h))
 
 -- so the weaker forms of a base are those of its numbers
-pub weakened-count : (w : Prefix) (x : Formula) → length (weakened w x) ≡ waysTo w
+pub weakened-count : (w : Prefix) (x : Formula) → length (weakened w x) ≡ weakerCount w
 unfolding weakened
-weakened-count w x = length-map (weakerPrefixes w) (λ (v : Prefix). wrap v x) ∙ ways-counted w
+weakened-count w x = length-map (weakerPrefixes w) (λ (v : Prefix). wrap v x) ∙ weaker-counted w
 
-pub weakened-at : (w : Prefix) (x : Formula) (m : ℕ) → m < waysTo w → getD (weakened w x) m x ≡ wrap (choose w m) x
+pub weakened-at : (w : Prefix) (x : Formula) (m : ℕ) → m < weakerCount w → getD (weakened w x) m x ≡ wrap (choose w m) x
 unfolding weakened wrap
 weakened-at w x m h = List·getD-map (λ (v : Prefix). wrap v x) (weakerPrefixes w) m [] ∙ ap (λ (v : Prefix). wrap v x) (choose-weaker w m h)
 
@@ -95,10 +95,10 @@ unfolding isSaid branches
 branched-positive said n h = omega arith
 branched-positive put n h = h
 
-pub ways-positive : (w : Prefix) → 0 < waysTo w
-unfolding waysTo
-ways-positive [] = omega arith
-ways-positive (q ∷ outer) = branched-positive (q .told) (waysTo outer) (ways-positive outer)
+pub weaker-count-positive : (w : Prefix) → 0 < weakerCount w
+unfolding weakerCount
+weaker-count-positive [] = omega arith
+weaker-count-positive (q ∷ outer) = branched-positive (q .told) (weakerCount outer) (weaker-count-positive outer)
 
 -- the last one has put at every place
 retold-last : (told : Told) (n : ℕ) → 0 < n → loweredTold told (branches (isSaid told) n - 1) ≡ put
@@ -111,13 +111,13 @@ unfolding isSaid branches laterBits
 last-later said n h = omega arith
 last-later put n h = refl
 
-pub choose-last : (w : Prefix) → choose w (waysTo w - 1) ≡ allPut w
-unfolding choose waysTo allPut
+pub choose-last : (w : Prefix) → choose w (weakerCount w - 1) ≡ allPut w
+unfolding choose weakerCount allPut
 choose-last [] = refl
 choose-last (q ∷ outer) =
     ap₂ (λ (t : Told) (v : Prefix). record { told = t; principal = q .principal } ∷ v)
-    (retold-last (q .told) (waysTo outer) (ways-positive outer))
-    (ap (choose outer) (last-later (q .told) (waysTo outer) (ways-positive outer)) ∙ choose-last outer)
+    (retold-last (q .told) (weakerCount outer) (weaker-count-positive outer))
+    (ap (choose outer) (last-later (q .told) (weakerCount outer) (weaker-count-positive outer)) ∙ choose-last outer)
 
 -- the principals stay
 pub choose-bottom : (w : Prefix) (m : ℕ) → allPut (choose w m) ≡ allPut w
@@ -151,9 +151,9 @@ unfolding inwards isSaid branches
 step-below said m n h = omega arith
 step-below put m n h = h
 
-pub inwards-below : (q : Quotation) (w : Prefix) (m : ℕ) → m < waysTo w → inwards (q .told) m < waysTo (q ∷ w)
-unfolding waysTo
-inwards-below q w m h = step-below (q .told) m (waysTo w) h
+pub inwards-below : (q : Quotation) (w : Prefix) (m : ℕ) → m < weakerCount w → inwards (q .told) m < weakerCount (q ∷ w)
+unfolding weakerCount
+inwards-below q w m h = step-below (q .told) m (weakerCount w) h
 
 pub wrap-inwards : (q : Quotation) (w : Prefix) (x : Formula) (m : ℕ)
     → wrap (choose (q ∷ w) (inwards (q .told) m)) x ≡ wrap (choose w m) (Rattle.infon.specs.Formula.quoted q x)
@@ -194,13 +194,13 @@ unfolding isSaid branches
 branched-most said n k h = rw (pow-suc 2 k) (omega arith)
 branched-most put n k h = rw (pow-suc 2 k) (omega arith)
 
-ways-most : (w : Prefix) → waysTo w ≤ 2 ^ length w
-unfolding waysTo
-ways-most [] = omega arith
-ways-most (q ∷ outer) = branched-most (q .told) (waysTo outer) (length outer) (ways-most outer)
+weaker-count-most : (w : Prefix) → weakerCount w ≤ 2 ^ length w
+unfolding weakerCount
+weaker-count-most [] = omega arith
+weaker-count-most (q ∷ outer) = branched-most (q .told) (weakerCount outer) (length outer) (weaker-count-most outer)
 
-pub ways-bound : (w : Prefix) → length w ≤ 4 → waysTo w ≤ 16
-ways-bound w h = le-trans (ways-most w) (pow-mono h)
+pub weaker-count-bound : (w : Prefix) → length w ≤ 4 → weakerCount w ≤ 16
+weaker-count-bound w h = le-trans (weaker-count-most w) (pow-mono h)
 
 pub mask-bound : (w : Prefix) → length w ≤ 4 → putMask w < 16
 mask-bound w h = le-trans (mask-below w) (pow-mono h)

@@ -11,7 +11,7 @@ use Rattle.infon.specs.Formula.{Told, said, put, Quotation, Formula, True, name
 use Rattle.infon.specs.Listing.{Prefix, wrap}
 use Rattle.nodes.specs.Nodes.{Node, part, inner, nodeAt, countNodes, kindOf}
 use Rattle.nodes.proofs.Order.{node-within, nodes-positive, and-left, and-right, implies-left, implies-right, quoted-inner}
-use Rattle.prefix.specs.Weaker.{waysTo, choose, inwards, isBase, formAt}
+use Rattle.prefix.specs.Weaker.{weakerCount, choose, inwards, isBase, formAt}
 use Rattle.prefix.proofs.Chosen.{wrap-inwards, inwards-below}
 
 -- what a kind tells of the formula
@@ -77,8 +77,8 @@ module _ (row : List Node) (j m : ℕ) (h : j < countNodes row) (q : Quotation) 
       let within = subst (λ (y : Formula). j + nodes y ≤ countNodes row) e (node-within row j h) in
       omega (arith, nodes-positive x)
 
-  pub inside-ways : m < waysTo (nodeAt row j .pre) → inwards (q .told) m < waysTo (nodeAt row (suc j) .pre)
-  inside-ways less = rw inside-pre (inwards-below q (nodeAt row j .pre) m less)
+  pub inside-weaker : m < weakerCount (nodeAt row j .pre) → inwards (q .told) m < weakerCount (nodeAt row (suc j) .pre)
+  inside-weaker less = rw inside-pre (inwards-below q (nodeAt row j .pre) m less)
 
   pub inside-form : formAt row (suc j) (inwards (q .told) m) ≡ formAt row j m
   unfolding formAt
@@ -133,10 +133,10 @@ module _ (row : List Node) (i : ℕ) (h : i < countNodes row) where
     unfolding formAt part
     part-form j behind m z e = ap (λ (n : Node). wrap (choose (n .pre) m) (n .what)) e
 
-    part-ways : (j behind m : ℕ) (z : Formula) → nodeAt row j ≡ part (nodeAt row i) behind z → m < waysTo (nodeAt row i .pre)
-        → m < waysTo (nodeAt row j .pre)
+    part-weaker : (j behind m : ℕ) (z : Formula) → nodeAt row j ≡ part (nodeAt row i) behind z → m < weakerCount (nodeAt row i .pre)
+        → m < weakerCount (nodeAt row j .pre)
     unfolding part
-    part-ways j behind m z e less = subst (λ (n : Node). m < waysTo (n .pre)) (sym e) less
+    part-weaker j behind m z e less = subst (λ (n : Node). m < weakerCount (n .pre)) (sym e) less
 
     pub left-form : (m : ℕ) → formAt row (suc i) m ≡ wrap (choose (nodeAt row i .pre) m) (p .left)
     left-form m = part-form (suc i) 2 m (p .left) (p .left-node)
@@ -144,8 +144,8 @@ module _ (row : List Node) (i : ℕ) (h : i < countNodes row) where
     pub right-form : (m : ℕ) → formAt row (suc i + nodes (p .left)) m ≡ wrap (choose (nodeAt row i .pre) m) (p .right)
     right-form m = part-form (suc i + nodes (p .left)) (3 + length (spelling (p .left))) m (p .right) (p .right-node)
 
-    pub left-ways : (m : ℕ) → m < waysTo (nodeAt row i .pre) → m < waysTo (nodeAt row (suc i) .pre)
-    left-ways m = part-ways (suc i) 2 m (p .left) (p .left-node)
+    pub left-weaker : (m : ℕ) → m < weakerCount (nodeAt row i .pre) → m < weakerCount (nodeAt row (suc i) .pre)
+    left-weaker m = part-weaker (suc i) 2 m (p .left) (p .left-node)
 
-    pub right-ways : (m : ℕ) → m < waysTo (nodeAt row i .pre) → m < waysTo (nodeAt row (suc i + nodes (p .left)) .pre)
-    right-ways m = part-ways (suc i + nodes (p .left)) (3 + length (spelling (p .left))) m (p .right) (p .right-node)
+    pub right-weaker : (m : ℕ) → m < weakerCount (nodeAt row i .pre) → m < weakerCount (nodeAt row (suc i + nodes (p .left)) .pre)
+    right-weaker m = part-weaker (suc i + nodes (p .left)) (3 + length (spelling (p .left))) m (p .right) (p .right-node)

@@ -13,7 +13,7 @@ use lib.Seq.{getD-drop, drop-cons, take-suc-set, drop-set-lt, drop-drop, getD-ta
 use lib.ListN.{drop-of-length-le}
 use Rattle.prefix.specs.declared.Place.{Place}
 use Rattle.prefix.specs.declared.Prefix.{Prefix}
-use Rattle.prefix.specs.Places.{blank, placeAt, upFrom, prefixAt, Climbs, Readable, branches, waysOf, lowered, laterBits, chosen, putWeight, putsOf}
+use Rattle.prefix.specs.Places.{blank, placeAt, upFrom, prefixAt, Climbs, Readable, branches, weakerCountOf, lowered, laterBits, chosen, putWeight, putsOf}
 
 -- Up from a node: so many places are read, and what is still to be read is known.
 pub record Climbed (t : List ℕ) (count : ℕ) (whole places : List Place) (above k : ℕ) : Type 0 where
@@ -99,9 +99,9 @@ module _ (places : List Place) (count k : ℕ) (d : Place) (fits : count ≤ len
       ∙ ap (λ (n : ℕ). getD (take count places) (k - 1) d ∷ drop n (take count places)) e
       ∙ ap (λ (q : Place). q ∷ drop k (take count places)) (getD-take count places (k - 1) d (omega arith))
 
-  pub ways-turn : waysOf (drop (k - 1) (take count places)) ≡ branches (getD places (k - 1) d .said) (waysOf (drop k (take count places)))
-  unfolding waysOf
-  ways-turn = ap waysOf one-more
+  pub weaker-count-turn : weakerCountOf (drop (k - 1) (take count places)) ≡ branches (getD places (k - 1) d .said) (weakerCountOf (drop k (take count places)))
+  unfolding weakerCountOf
+  weaker-count-turn = ap weakerCountOf one-more
 
   pub puts-turn : putsOf (drop (k - 1) (take count places))
       ≡ putsOf (drop k (take count places)) + putWeight (getD places (k - 1) d .said) (2 ^ length (drop k (take count places)))
@@ -114,9 +114,9 @@ module _ (places : List Place) (count k : ℕ) (d : Place) (fits : count ≤ len
 nothing-out : (places : List Place) (count : ℕ) → drop count (take count places) ≡ []
 nothing-out places count = drop-of-length-le (take count places) {i = count} (rw (length-take count places) (omega arith))
 
-pub ways-begin : (places : List Place) (count : ℕ) → 1 ≡ waysOf (drop count (take count places))
-unfolding waysOf
-ways-begin places count = rw (nothing-out places count)
+pub weaker-count-begin : (places : List Place) (count : ℕ) → 1 ≡ weakerCountOf (drop count (take count places))
+unfolding weakerCountOf
+weaker-count-begin places count = rw (nothing-out places count)
 
 pub puts-begin : (places : List Place) (count : ℕ) → 0 ≡ putsOf (drop count (take count places))
 unfolding putsOf
@@ -131,10 +131,10 @@ branches-most true n k h = rw (pow-suc 2 k) (omega arith)
 branches-most false n k h = rw (pow-suc 2 k) (omega arith)
 
 -- so many places have at most so many weaker prefixes, and so large a mask
-pub ways-most : (ps : List Place) → waysOf ps ≤ 2 ^ length ps
-unfolding waysOf
-ways-most [] = omega arith
-ways-most (q ∷ outer) = branches-most (q .said) (waysOf outer) (length outer) (ways-most outer)
+pub weaker-count-most : (ps : List Place) → weakerCountOf ps ≤ 2 ^ length ps
+unfolding weakerCountOf
+weaker-count-most [] = omega arith
+weaker-count-most (q ∷ outer) = branches-most (q .said) (weakerCountOf outer) (length outer) (weaker-count-most outer)
 
 weight-most : (said : Bool) (n k : ℕ) → n < 2 ^ k → n + putWeight said (2 ^ k) < 2 ^ suc k
 unfolding putWeight
@@ -153,8 +153,8 @@ module _ (places : List Place) (count k : ℕ) (few : count ≤ 4) where
   few-left : length (drop k (take count places)) ≤ 4
   few-left = rw (length-drop k (take count places), length-take count places) (omega arith)
 
-  pub ways-few : waysOf (drop k (take count places)) ≤ 16
-  ways-few = le-trans (ways-most (drop k (take count places))) (few-powers _ few-left)
+  pub weaker-count-few : weakerCountOf (drop k (take count places)) ≤ 16
+  weaker-count-few = le-trans (weaker-count-most (drop k (take count places))) (few-powers _ few-left)
 
   pub puts-few : putsOf (drop k (take count places)) < 16
   puts-few = le-trans (puts-most (drop k (take count places))) (few-powers _ few-left)

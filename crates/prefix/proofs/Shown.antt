@@ -19,9 +19,9 @@ use Rattle.nodes.proofs.Every.{Linked, node-linked}
 use Rattle.nodes.proofs.Codes.{code3-few, code4-roots, shallow-nodes}
 use Rattle.prefix.specs.declared.Place.{Place}
 use Rattle.prefix.specs.declared.Prefix.{Prefix}
-use Rattle.prefix.specs.Places.{Sized, used, EachPlace, blank, placeAt, upFrom, prefixAt, Climbs, Readable, branches, waysOf, lowered, laterBits, chosen, weakerAt, putWeight, putsOf}
+use Rattle.prefix.specs.Places.{Sized, used, EachPlace, blank, placeAt, upFrom, prefixAt, Climbs, Readable, branches, weakerCountOf, lowered, laterBits, chosen, weakerAt, putWeight, putsOf}
 use Rattle.prefix.specs.Held.{NodesHeld}
-use Rattle.prefix.specs.Weaker.{isSaid, loweredTold, waysTo, choose}
+use Rattle.prefix.specs.Weaker.{isSaid, loweredTold, weakerCount, choose}
 
 -- What a place shows: its kind, and the principal of its quotation node.
 unfoldable pub toldOf : Bool → Told
@@ -65,10 +65,10 @@ module _ (row : List Node) where
   unfolding shown
   shown-length ps = length-map ps (quotationOf row)
 
-  pub shown-ways : (ps : List Place) → waysOf ps ≡ waysTo (shown row ps)
-  unfolding waysOf waysTo shown quotationOf
-  shown-ways [] = refl
-  shown-ways (q ∷ outer) = ap₂ branches (sym (said-back (q .said))) (shown-ways outer)
+  pub shown-weaker : (ps : List Place) → weakerCountOf ps ≡ weakerCount (shown row ps)
+  unfolding weakerCountOf weakerCount shown quotationOf
+  shown-weaker [] = refl
+  shown-weaker (q ∷ outer) = ap₂ branches (sym (said-back (q .said))) (shown-weaker outer)
 
   pub shown-chosen : (ps : List Place) (m : ℕ) → shown row (chosen ps m) ≡ choose (shown row ps) m
   unfolding chosen choose shown quotationOf lowered
@@ -242,8 +242,8 @@ module _ (file t : List ℕ) (held : NodesHeld file t) where
         }
 
     -- so what is worked out of the places is what the prefix says
-    pub node-ways : waysOf (used (prefixAt t i)) ≡ waysTo (nodeAt (nodesOf file) i .pre)
-    node-ways = shown-ways (nodesOf file) (used (prefixAt t i)) ∙ ap waysTo prefix-shown
+    pub node-weaker : weakerCountOf (used (prefixAt t i)) ≡ weakerCount (nodeAt (nodesOf file) i .pre)
+    node-weaker = shown-weaker (nodesOf file) (used (prefixAt t i)) ∙ ap weakerCount prefix-shown
 
     pub node-puts : (m : ℕ) → putsOf (used (weakerAt (prefixAt t i) m)) ≡ putMask (choose (nodeAt (nodesOf file) i .pre) m)
     node-puts m =

@@ -62,9 +62,9 @@ unfoldable pub branches : Bool → ℕ → ℕ
 branches true n = 2 * n
 branches false n = n
 
-unfoldable pub waysOf : List Place → ℕ
-waysOf [] = 1
-waysOf (q ∷ outer) = branches (q .said) (waysOf outer)
+unfoldable pub weakerCountOf : List Place → ℕ
+weakerCountOf [] = 1
+weakerCountOf (q ∷ outer) = branches (q .said) (weakerCountOf outer)
 
 -- Weaker prefix number m: the lowest bit of m is the innermost said place's, and said comes before put.
 unfoldable pub lowered : ℕ → Place → Place

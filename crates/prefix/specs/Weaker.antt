@@ -17,9 +17,9 @@ unfoldable pub loweredTold : Told → ℕ → Told
 loweredTold said m = cond (eqb (m % 2) 0) said put
 loweredTold put m = put
 
-unfoldable pub waysTo : Prefix → ℕ
-waysTo [] = 1
-waysTo (q ∷ outer) = branches (isSaid (q .told)) (waysTo outer)
+unfoldable pub weakerCount : Prefix → ℕ
+weakerCount [] = 1
+weakerCount (q ∷ outer) = branches (isSaid (q .told)) (weakerCount outer)
 
 unfoldable pub choose : Prefix → ℕ → Prefix
 choose [] m = []

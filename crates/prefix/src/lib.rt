@@ -1,17 +1,14 @@
 // A prefix: the row of quotations above a base, by value. Its places go from the innermost to the outermost, each with its kind
 // and its principal, the principal by the number of its quotation node.
+use nodes::ABOVE;
+use nodes::DEPTH;
+use nodes::SAID;
 ghost use mathlib.Core.Path.{_≡_};
 ghost use Prim.Native.Nat.{_<_};
-ghost use Rattle.prefix.specs.Places.{Sized, used, prefixAt, Readable, branches, waysOf, lowered, laterBits, weakerAt, putWeight, putsOf};
+ghost use Rattle.prefix.specs.Places.{Sized, used, prefixAt, Readable, branches, weakerCountOf, lowered, laterBits, weakerAt, putWeight, putsOf};
 
 // "A prefix is at most four places": the one number to change for longer ones.
 pub const PLACES: usize = 4;
-
-// Where the node table's column begins that tells the nearest quotation above a node.
-const ABOVE: usize = 4096;
-
-// Where the node table's column begins that tells how many quotations are above a node.
-const DEPTH: usize = 6144;
 
 // One place: its kind, and the number of its quotation node.
 pub struct Place {
@@ -40,7 +37,7 @@ pub fn prefix_of(nodes: &[u16], i: usize) -> Prefix
     let mut k = 0;
     while k < count {
         let node = above as usize;
-        let said = nodes[node] == 4;
+        let said = nodes[node] == SAID;
         places[k] = Place { said, node: above };
         above = nodes[ABOVE + node];
         k += 1;
@@ -60,9 +57,9 @@ fn branched(said: bool, n: usize) -> usize
 }
 
 // How many weaker prefixes there are, the prefix itself among them.
-pub fn ways(p: Prefix) -> usize
+pub fn weaker_count(p: Prefix) -> usize
     requires { ⌜ Sized p ⌝ }
-    ensures { λ r. ⌜ r ≡ waysOf (used p) ⌝ }
+    ensures { λ r. ⌜ r ≡ weakerCountOf (used p) ⌝ }
 {
     let places = p.places;
     let mut k = p.count;

@@ -1,6 +1,13 @@
 // The test of a record over the formula table and the marks of what is recorded: the eight rules as comparisons of columns.
 use infon::Record;
 use infon::Way;
+use table::BOTTOM;
+use table::HYPOTHESIS;
+use table::KIND;
+use table::LEFT;
+use table::PUTS;
+use table::RIGHT;
+use table::ROWS;
 ghost use mathlib.Core.Path.{_≡_};
 ghost use mathlib.Core.Bool.{_&&_};
 ghost use Prim.Native.Nat.{_<_, _≤_};
@@ -9,19 +16,6 @@ ghost use lib.Dec.{eqb};
 ghost use Rattle.infon.specs.declared.Way.the-variants.{Weaken};
 ghost use Rattle.table.specs.Table.{cell};
 ghost use Rattle.table.specs.Tests.{givesIn, isMarked, leadsTo, goodIn};
-
-// The columns of the formula table, of 4,096 rows each: 24,576 cells.
-pub const KIND: usize = 0;
-
-pub const PUTS: usize = 1;
-
-pub const LEFT: usize = 2;
-
-pub const RIGHT: usize = 3;
-
-pub const BOTTOM: usize = 4;
-
-pub const HYPOTHESIS: usize = 5;
 
 // The kinds of formulas that the rules ask for: a prefix over `T`, over `+`, over `>`.
 pub const TRUTH: usize = 0;
@@ -35,7 +29,7 @@ pub fn cell_at(table: &[u16], column: usize, i: usize) -> usize
     requires { ⌜ (24576 ≤ length (now table)) × (column < 6) × (i < 4096) ⌝ }
     ensures { λ r. ⌜ r ≡ cell (now (table .entry)) column i ⌝ }
 {
-    table[column * 4096 + i] as usize
+    table[column * ROWS + i] as usize
 }
 
 // Whether a number is one of the n listed, and marked as recorded.

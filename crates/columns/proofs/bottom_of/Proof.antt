@@ -6,9 +6,9 @@ use Prim.Native.Nat.{ℕ, _+_, _*_, _-_, _/_, _<_}
 use mathlib.Core.Path.{_≡_, _∙_, ap}
 use lib.ListN.{getD}
 use Rattle.prefix.specs.declared.Prefix.{Prefix}
-use Rattle.prefix.specs.Places.{used, prefixAt, waysOf}
+use Rattle.prefix.specs.Places.{used, prefixAt, weakerCountOf}
 use Rattle.columns.specs.Columns.{stride, bottomColumn}
-use Rattle.columns.proofs.Steps.{form-row, form-readable, form-sized, form-ways-some, form-ways-few}
+use Rattle.columns.proofs.Steps.{form-row, form-readable, form-sized, form-weaker-some, form-weaker-few}
 use Rattle.columns.proofs.bottom_of.Statement.{statement}
 use Rattle.columns.proofs.bottom_of.Tie as tie
 
@@ -16,9 +16,9 @@ row : (c : tie.Start) → getD (c .args .owners .now) (c .args .i) 0 / stride < 
 row c = form-row _ _ _ (c .pre .owner .0)
 
 -- how many forms the node has
-ways-are : (c : tie.After-ways) → c .ways .result
-    ≡ waysOf (used (prefixAt (c .before .before .before .before .before .before .args .nodes .now) (getD (c .before .before .before .before .before .before .args .owners .now) (c .before .before .before .before .before .before .args .i) 0 / stride)))
-ways-are c = c .ways .ensures ∙ ap (λ (p : Prefix). waysOf (used p)) (c .before .prefix-of .ensures)
+weaker-are : (c : tie.After-weaker-count) → c .weaker-count .result
+    ≡ weakerCountOf (used (prefixAt (c .before .before .before .before .before .before .args .nodes .now) (getD (c .before .before .before .before .before .before .args .owners .now) (c .before .before .before .before .before .before .args .i) 0 / stride)))
+weaker-are c = c .weaker-count .ensures ∙ ap (λ (p : Prefix). weakerCountOf (used p)) (c .before .prefix-of .ensures)
 
 mul-b : tie.Need-mul-b
 mul-b c = search needs
@@ -32,31 +32,31 @@ cast-b c = omega (arith, c .shared-slice-known4 .given (c .before .before .befor
 prefix-of-requires : tie.Need-prefix-of-requires
 prefix-of-requires c κs = let s = c .before .before .before .before in form-readable _ _ _ (s .pre .owner .0)
 
-ways-requires : tie.Need-ways-requires
-ways-requires c κs = let s = c .before .before .before .before .before in rw (c .prefix-of .ensures) (form-sized _ _ _ (s .pre .owner .0))
+weaker-count-requires : tie.Need-weaker-count-requires
+weaker-count-requires c κs = let s = c .before .before .before .before .before in rw (c .prefix-of .ensures) (form-sized _ _ _ (s .pre .owner .0))
 
 sub-last : tie.Need-sub-last
-sub-last c = let s = c .before .before .before .before .before .before in omega (arith, ways-are c, form-ways-some _ _ _ (s .pre .owner .0))
+sub-last c = let s = c .before .before .before .before .before .before in omega (arith, weaker-are c, form-weaker-some _ _ _ (s .pre .owner .0))
 
 mul-result : tie.Need-mul-result
 mul-result c = omega (arith, row (c .before .before .before .before .before .before))
 
 add-result : tie.Need-add-result
-add-result c = let s = c .before .before .before .before .before .before in omega (arith, row s, ways-are c, form-ways-few _ _ _ (s .pre .owner .0))
+add-result c = let s = c .before .before .before .before .before .before in omega (arith, row s, weaker-are c, form-weaker-few _ _ _ (s .pre .owner .0))
 
 mul-result-2 : tie.Need-mul-result-2
-mul-result-2 c = let s = c .before .before .before .before .before .before in omega (arith, row s, ways-are c, form-ways-few _ _ _ (s .pre .owner .0))
+mul-result-2 c = let s = c .before .before .before .before .before .before in omega (arith, row s, weaker-are c, form-weaker-few _ _ _ (s .pre .owner .0))
 
 shared-slice-read-result : tie.Need-shared-slice-read-result
 shared-slice-read-result c =
     let s = c .before .before .before .before .before .before .before in
-    omega (arith, row s, ways-are (c .before), form-ways-few _ _ _ (s .pre .owner .0), form-ways-some _ _ _ (s .pre .owner .0), s .pre .cand-long)
+    omega (arith, row s, weaker-are (c .before), form-weaker-few _ _ _ (s .pre .owner .0), form-weaker-some _ _ _ (s .pre .owner .0), s .pre .cand-long)
 
 returns : tie.Need-returns
 unfolding bottomColumn
 returns c =
     let s = c .before .before .before .before .before .before .before in
-    ap (λ (n : ℕ). getD (s .args .cand .now) (getD (s .args .owners .now) (s .args .i) 0 / stride * stride + (n - 1)) 0) (ways-are (c .before))
+    ap (λ (n : ℕ). getD (s .args .cand .now) (getD (s .args .owners .now) (s .args .i) 0 / stride * stride + (n - 1)) 0) (weaker-are (c .before))
 
 pub bottom-of-spec : {M : Type 1} → statement M
 bottom-of-spec =
@@ -66,7 +66,7 @@ bottom-of-spec =
     shared-slice-read-b
     cast-b
     prefix-of-requires
-    ways-requires
+    weaker-count-requires
     sub-last
     mul-result
     add-result

@@ -1,56 +1,68 @@
--- `columns::fill_columns` meets its contract: one column after the other.
+-- `columns::fill_columns` meets its contract: one column more at each turn.
 -- Assumes nothing.
-use native.Mathlib.Omega.{arith}
 use borrow.Author.Needs.{needs}
-use Rattle.columns.specs.Columns.{filled}
+use native.Mathlib.Omega.{arith}
+use Prim.Native.Nat.{_≤_, _-_}
+use mathlib.Core.Path.{_≡_, refl, _∙_, ap}
+use lib.ListN.{length}
+use Rattle.columns.specs.Columns.{filledTo}
+use Rattle.columns.proofs.Filled.{length-to, columns-turn, columns-over}
 use Rattle.columns.proofs.fill_columns.Statement.{statement}
 use Rattle.columns.proofs.fill_columns.Tie as tie
 
-fill-kinds-requires : tie.Need-fill-kinds-requires
-fill-kinds-requires c κs = search needs
+abbrev Inv-loop : tie.InvT-loop
+Inv-loop nodes cand keys owners n table₀ column₀ table column = (column ≤ 6) × (table ≡ filledTo column nodes cand keys owners n table₀)
 
-fill-puts-requires : tie.Need-fill-puts-requires
-fill-puts-requires c κs = search needs
+abbrev μ-loop : tie.MeasureT-loop
+μ-loop nodes cand keys owners n table₀ column₀ table column = 6 - column
 
-fill-lefts-requires : tie.Need-fill-lefts-requires
-fill-lefts-requires c κs = search needs
+size : (c : tie.At-loop Inv-loop μ-loop) → length (c .loop .table) ≡ length (c .before .before .before .before .before .before .args .table .now)
+size c = ap length (c .loop .inv .1) ∙ length-to _ _ _ _ _ _ (c .loop .column)
 
-fill-rights-requires : tie.Need-fill-rights-requires
-fill-rights-requires c κs = search needs
+loop-holds : tie.Need-loop-holds Inv-loop μ-loop
+unfolding filledTo
+loop-holds c = (omega arith, refl)
 
-fill-bottoms-requires : tie.Need-fill-bottoms-requires
-fill-bottoms-requires c κs = search needs
-
-fill-zeros-requires : tie.Need-fill-zeros-requires
-fill-zeros-requires c κs =
-    omega (
-      arith,
-      c .before .before .before .before .before .before .before .before .before .before .before .before .before .before .before .before .before .before .before .before .before .before .before .before .before .before .pre .0 .table-long,
-      c .before .before .before .before .before .before .before .before .before .before .before .before .before .before .before .before .before .before .before .before .before .before .before .before .before .before .pre .0 .owners-are .few,
-      c .before .before .before .before .before .before .before .before .before .before .before .before .before .before .before .before .before .before .before .fill-kinds .kept .1 .1 .1 .0,
-      c .before .before .before .before .before .before .before .before .before .before .before .before .before .before .before .fill-puts .kept .1 .1 .0,
-      c .before .before .before .before .before .before .before .before .before .before .before .fill-lefts .kept .1 .1 .1 .1 .0,
-      c .before .before .before .before .before .before .before .fill-rights .kept .1 .1 .1 .1 .0,
-      c .before .before .before .fill-bottoms .kept .1 .1 .1 .1 .0,
+fill-column-requires : tie.Need-fill-column-requires Inv-loop μ-loop
+fill-column-requires c κs =
+    let s = c .before .before .before .before .before .before .before .before in (
+      record {
+        owners-are = s .pre .0 .owners-are;
+        cand-long = s .pre .0 .cand-long;
+        table-long = omega (arith, s .pre .0 .table-long, size (c .before .before));
+      },
+      s .pre .1,
+      c .before .loop-test .taken,
     )
 
-same-length : tie.Need-same-length
-same-length c = search needs
+add-column : tie.Need-add-column Inv-loop μ-loop
+add-column c = search needs
 
-returns : tie.Need-returns
-unfolding filled
-returns c =
-    rw (c .before .before .fill-zeros .ensures, c .before .before .before .before .before .before .fill-bottoms .ensures, c .before .before .before .before .before .before .before .before .before .before .fill-rights .ensures, c .before .before .before .before .before .before .before .before .before .before .before .before .before .before .fill-lefts .ensures, c .before .before .before .before .before .before .before .before .before .before .before .before .before .before .before .before .before .before .fill-puts .ensures, c .before .before .before .before .before .before .before .before .before .before .before .before .before .before .before .before .before .before .before .before .before .before .fill-kinds .ensures)
+loop-less : tie.Need-loop-less Inv-loop μ-loop
+loop-less c = search needs
+
+loop-again : tie.Need-loop-again Inv-loop μ-loop
+loop-again c = (
+  omega (arith, c .before .before .before .before .loop-test .taken),
+  columns-turn _ _ _ _ _ _ (c .before .before .before .before .before .loop .column) _ _ (c .before .before .before .before .before .loop .inv .1) (c .before .before .fill-column .ensures),
+)
+
+same-length : tie.Need-same-length Inv-loop μ-loop
+same-length c = size (c .before)
+
+returns : tie.Need-returns Inv-loop μ-loop
+returns c = columns-over _ _ _ _ _ _ (c .before .loop .column) _ (c .before .loop .inv .1) (c .before .loop .inv .0) (c .loop-test .left)
 
 pub fill-columns-spec : {M : Type 1} → statement M
 fill-columns-spec =
     tie.close
     (tie.spec
-    fill-kinds-requires
-    fill-puts-requires
-    fill-lefts-requires
-    fill-rights-requires
-    fill-bottoms-requires
-    fill-zeros-requires
+    Inv-loop
+    μ-loop
+    loop-holds
+    fill-column-requires
+    add-column
+    loop-less
+    loop-again
     same-length
     returns)

@@ -30,17 +30,17 @@ found-few : (c : tie.After-find Inv-loop μ-loop) → c .find .result < 4112
 found-few c =
     let keys = c .before .before .before .before .before .loop .keys in
     let n = c .before .before .before .before .before .loop .n in
-    let room = key-room _ _ _ _ _ _ _ _ _ _ _ _ _ (c .before .before .before .before .before .before .before .before .before .before .pre) (c .before .before .before .before .before .before .ways .ensures) (c .before .before .before .before .before .loop .inv) (c .before .before .before .before .loop-test .taken) in
-    let few = listed-few _ _ _ _ _ _ _ _ _ _ _ _ _ (c .before .before .before .before .before .before .before .before .before .before .pre) (c .before .before .before .before .before .before .ways .ensures) (c .before .before .before .before .before .loop .inv) (c .before .before .before .before .loop-test .taken) in
+    let room = key-room _ _ _ _ _ _ _ _ _ _ _ _ _ (c .before .before .before .before .before .before .before .before .before .before .pre) (c .before .before .before .before .before .before .weaker-count .ensures) (c .before .before .before .before .before .loop .inv) (c .before .before .before .before .loop-test .taken) in
+    let few = listed-few _ _ _ _ _ _ _ _ _ _ _ _ _ (c .before .before .before .before .before .before .before .before .before .before .pre) (c .before .before .before .before .before .before .weaker-count .ensures) (c .before .before .before .before .before .loop .inv) (c .before .before .before .before .loop-test .taken) in
     omega (arith, c .find .ensures, place-most keys n (c .before .before .before .before .before .before .before .before .before .before .args .kin * 16 + c .before .before .puts .result) (take n keys), length-take-le n keys (omega (arith, room)))
 
-ways-requires : tie.Need-ways-requires Inv-loop μ-loop
-ways-requires c κs = c .before .before .before .pre .sized
+weaker-count-requires : tie.Need-weaker-count-requires Inv-loop μ-loop
+weaker-count-requires c κs = c .before .before .before .pre .sized
 
 loop-holds : tie.Need-loop-holds Inv-loop μ-loop
 loop-holds c =
     let s = c .before .before .before .before in
-    turning-begins (s .args .p) (s .args .kin) (s .args .base) (s .args .cand .now) (s .args .keys .now) (s .args .owners .now) (s .args .count) (c .ways .result)
+    turning-begins (s .args .p) (s .args .kin) (s .args .base) (s .args .cand .now) (s .args .keys .now) (s .args .owners .now) (s .args .count) (c .weaker-count .result)
 
 weaker-requires : tie.Need-weaker-requires Inv-loop μ-loop
 weaker-requires c κs = c .before .before .before .before .before .before .pre .sized
@@ -58,50 +58,50 @@ cast-key : tie.Need-cast-key Inv-loop μ-loop
 cast-key c = omega (arith, c .before .before .before .before .before .before .before .before .pre .kin-few, few-puts c)
 
 find-requires : tie.Need-find-requires Inv-loop μ-loop
-find-requires c κs = omega (arith, key-room _ _ _ _ _ _ _ _ _ _ _ _ _ (c .before .before .before .before .before .before .before .before .before .pre) (c .before .before .before .before .before .ways .ensures) (c .before .before .before .before .loop .inv) (c .before .before .before .loop-test .taken))
+find-requires c κs = omega (arith, key-room _ _ _ _ _ _ _ _ _ _ _ _ _ (c .before .before .before .before .before .before .before .before .before .pre) (c .before .before .before .before .before .weaker-count .ensures) (c .before .before .before .before .loop .inv) (c .before .before .before .loop-test .taken))
 
 mul-form : tie.Need-mul-form Inv-loop μ-loop
 mul-form c = omega (arith, c .before .before .before .before .before .before .before .before .before .before .pre .base-few)
 
 add-form : tie.Need-add-form Inv-loop μ-loop
-add-form c = omega (arith, c .before .before .before .before .before .before .before .before .before .before .pre .base-few, c .before .before .before .before .before .before .before .before .before .before .pre .few-ways, c .before .before .before .before .before .before .ways .ensures)
+add-form c = omega (arith, c .before .before .before .before .before .before .before .before .before .before .pre .base-few, c .before .before .before .before .before .before .before .before .before .before .pre .few-weaker, c .before .before .before .before .before .before .weaker-count .ensures)
 
 cast-cand : tie.Need-cast-cand Inv-loop μ-loop
 cast-cand c = omega (arith, found-few c)
 
 mul-cand : tie.Need-mul-cand Inv-loop μ-loop
-mul-cand c = omega (arith, c .before .before .before .before .before .before .before .before .before .before .pre .base-few, c .before .before .before .before .before .before .before .before .before .before .pre .few-ways, c .before .before .before .before .before .before .ways .ensures)
+mul-cand c = omega (arith, c .before .before .before .before .before .before .before .before .before .before .pre .base-few, c .before .before .before .before .before .before .before .before .before .before .pre .few-weaker, c .before .before .before .before .before .before .weaker-count .ensures)
 
 slice-write-cand : tie.Need-slice-write-cand Inv-loop μ-loop
-slice-write-cand c = form-room _ _ _ _ _ _ _ _ _ _ _ _ _ (c .before .before .before .before .before .before .before .before .before .before .pre) (c .before .before .before .before .before .before .ways .ensures) (c .before .before .before .before .before .loop .inv) (c .before .before .before .before .loop-test .taken)
+slice-write-cand c = form-room _ _ _ _ _ _ _ _ _ _ _ _ _ (c .before .before .before .before .before .before .before .before .before .before .pre) (c .before .before .before .before .before .before .weaker-count .ensures) (c .before .before .before .before .before .loop .inv) (c .before .before .before .before .loop-test .taken)
 
 mul-keys : tie.Need-mul-keys Inv-loop μ-loop
-mul-keys c = omega (arith, listed-few _ _ _ _ _ _ _ _ _ _ _ _ _ (c .before .before .before .before .before .before .before .before .before .before .pre) (c .before .before .before .before .before .before .ways .ensures) (c .before .before .before .before .before .loop .inv) (c .before .before .before .before .loop-test .taken))
+mul-keys c = omega (arith, listed-few _ _ _ _ _ _ _ _ _ _ _ _ _ (c .before .before .before .before .before .before .before .before .before .before .pre) (c .before .before .before .before .before .before .weaker-count .ensures) (c .before .before .before .before .before .loop .inv) (c .before .before .before .before .loop-test .taken))
 
 slice-write-keys : tie.Need-slice-write-keys Inv-loop μ-loop
-slice-write-keys c = key-room _ _ _ _ _ _ _ _ _ _ _ _ _ (c .before .before .before .before .before .before .before .before .before .before .pre) (c .before .before .before .before .before .before .ways .ensures) (c .before .before .before .before .before .loop .inv) (c .before .before .before .before .loop-test .taken)
+slice-write-keys c = key-room _ _ _ _ _ _ _ _ _ _ _ _ _ (c .before .before .before .before .before .before .before .before .before .before .pre) (c .before .before .before .before .before .before .weaker-count .ensures) (c .before .before .before .before .before .loop .inv) (c .before .before .before .before .loop-test .taken)
 
 cast-owners : tie.Need-cast-owners Inv-loop μ-loop
-cast-owners c = omega (arith, c .before .before .before .before .before .before .before .before .before .before .pre .base-few, c .before .before .before .before .before .before .before .before .before .before .pre .few-ways, c .before .before .before .before .before .before .ways .ensures)
+cast-owners c = omega (arith, c .before .before .before .before .before .before .before .before .before .before .pre .base-few, c .before .before .before .before .before .before .before .before .before .before .pre .few-weaker, c .before .before .before .before .before .before .weaker-count .ensures)
 
 mul-owners : tie.Need-mul-owners Inv-loop μ-loop
-mul-owners c = omega (arith, listed-few _ _ _ _ _ _ _ _ _ _ _ _ _ (c .before .before .before .before .before .before .before .before .before .before .pre) (c .before .before .before .before .before .before .ways .ensures) (c .before .before .before .before .before .loop .inv) (c .before .before .before .before .loop-test .taken))
+mul-owners c = omega (arith, listed-few _ _ _ _ _ _ _ _ _ _ _ _ _ (c .before .before .before .before .before .before .before .before .before .before .pre) (c .before .before .before .before .before .before .weaker-count .ensures) (c .before .before .before .before .before .loop .inv) (c .before .before .before .before .loop-test .taken))
 
 slice-write-owners : tie.Need-slice-write-owners Inv-loop μ-loop
-slice-write-owners c = owner-room _ _ _ _ _ _ _ _ _ _ _ _ _ (c .before .before .before .before .before .before .before .before .before .before .pre) (c .before .before .before .before .before .before .ways .ensures) (c .before .before .before .before .before .loop .inv) (c .before .before .before .before .loop-test .taken)
+slice-write-owners c = owner-room _ _ _ _ _ _ _ _ _ _ _ _ _ (c .before .before .before .before .before .before .before .before .before .before .pre) (c .before .before .before .before .before .before .weaker-count .ensures) (c .before .before .before .before .before .loop .inv) (c .before .before .before .before .loop-test .taken)
 
 grown-requires : tie.Need-grown-requires Inv-loop μ-loop
-grown-requires c κs = omega (arith, listed-few _ _ _ _ _ _ _ _ _ _ _ _ _ (c .before .before .before .before .before .before .before .before .before .before .pre) (c .before .before .before .before .before .before .ways .ensures) (c .before .before .before .before .before .loop .inv) (c .before .before .before .before .loop-test .taken))
+grown-requires c κs = omega (arith, listed-few _ _ _ _ _ _ _ _ _ _ _ _ _ (c .before .before .before .before .before .before .before .before .before .before .pre) (c .before .before .before .before .before .before .weaker-count .ensures) (c .before .before .before .before .before .loop .inv) (c .before .before .before .before .loop-test .taken))
 
 add-m : tie.Need-add-m Inv-loop μ-loop
-add-m c = omega (arith, c .before .before .before .before .before .before .before .before .before .before .before .pre .few-ways, c .before .before .before .before .before .before .before .ways .ensures)
+add-m c = omega (arith, c .before .before .before .before .before .before .before .before .before .before .before .pre .few-weaker, c .before .before .before .before .before .before .before .weaker-count .ensures)
 
 loop-less : tie.Need-loop-less Inv-loop μ-loop
 loop-less c = omega arith
 
 loop-again : tie.Need-loop-again Inv-loop μ-loop
 loop-again c =
-    turning-on _ _ _ _ _ _ _ _ _ _ _ _ _ (c .before .before .before .before .before .before .before .before .before .before .before .pre) (c .before .before .before .before .before .before .before .ways .ensures) (c .before .before .before .before .before .before .loop .inv) (c .before .before .before .before .before .loop-test .taken)
+    turning-on _ _ _ _ _ _ _ _ _ _ _ _ _ (c .before .before .before .before .before .before .before .before .before .before .before .pre) (c .before .before .before .before .before .before .before .weaker-count .ensures) (c .before .before .before .before .before .before .loop .inv) (c .before .before .before .before .before .loop-test .taken)
     (c .before .before .before .puts .result) _ (c .before .find .result) (c .grown .result) (puts-are (c .before .before .before)) refl (c .before .find .ensures) (c .grown .ensures)
 
 same-length : tie.Need-same-length Inv-loop μ-loop
@@ -118,7 +118,7 @@ returns c =
     let s = c .before .before .before .before .before .before in
     let so = c .before .loop .inv in
     forms-over (s .args .p) (s .args .kin) (s .args .base) _ _ _ (s .args .count) (c .before .loop .m) _ _ _ (c .before .loop .n) (so .forms)
-    (omega (arith, c .before .before .ways .ensures, c .loop-test .left)) (omega (arith, c .before .before .ways .ensures, so .so-far))
+    (omega (arith, c .before .before .weaker-count .ensures, c .loop-test .left)) (omega (arith, c .before .before .weaker-count .ensures, so .so-far))
 
 pub list-forms-spec : {M : Type 1} → statement M
 list-forms-spec =
@@ -126,7 +126,7 @@ list-forms-spec =
     (tie.spec
     Inv-loop
     μ-loop
-    ways-requires
+    weaker-count-requires
     loop-holds
     weaker-requires
     puts-requires

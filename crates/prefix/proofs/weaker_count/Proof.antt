@@ -1,23 +1,23 @@
--- `prefix::ways` meets its contract: from the outermost place inwards, each place branches what lies outside it.
+-- `prefix::weaker_count` meets its contract: from the outermost place inwards, each place branches what lies outside it.
 -- Assumes nothing.
 use borrow.Author.Needs.{needs}
 use native.Mathlib.Omega.{arith}
 use Prim.Native.Nat.{_≤_}
 use mathlib.Core.Path.{_≡_, sym, _∙_, ap}
 use lib.ListN.{take, drop}
-use Rattle.prefix.specs.Places.{used, waysOf, branches, blank}
-use Rattle.prefix.proofs.Loops.{ways-begin, ways-turn, ways-few, none-dropped}
-use Rattle.prefix.proofs.ways.Statement.{statement}
-use Rattle.prefix.proofs.ways.Tie as tie
+use Rattle.prefix.specs.Places.{used, weakerCountOf, branches, blank}
+use Rattle.prefix.proofs.Loops.{weaker-count-begin, weaker-count-turn, weaker-count-few, none-dropped}
+use Rattle.prefix.proofs.weaker_count.Statement.{statement}
+use Rattle.prefix.proofs.weaker_count.Tie as tie
 
 abbrev Inv-loop : tie.InvT-loop
-Inv-loop places k₀ n₀ k n = (k ≤ k₀) × (n ≡ waysOf (drop k (take k₀ places)))
+Inv-loop places k₀ n₀ k n = (k ≤ k₀) × (n ≡ weakerCountOf (drop k (take k₀ places)))
 
 abbrev μ-loop : tie.MeasureT-loop
 μ-loop places k₀ n₀ k n = k
 
 loop-holds : tie.Need-loop-holds Inv-loop μ-loop
-loop-holds c = (omega arith, ways-begin (c .before .args .p .places) (c .before .args .p .count))
+loop-holds c = (omega arith, weaker-count-begin (c .before .args .p .places) (c .before .args .p .count))
 
 sub-k : tie.Need-sub-k Inv-loop μ-loop
 sub-k c = search needs
@@ -31,7 +31,7 @@ array-copy-out-place c = search needs
 branched-requires : tie.Need-branched-requires Inv-loop μ-loop
 branched-requires c κs =
     let p = c .before .before .before .before .args .p in
-    omega (arith, c .before .before .loop .inv .1, ways-few (p .places) (p .count) (c .before .before .loop .k) (c .before .before .before .before .pre .few))
+    omega (arith, c .before .before .loop .inv .1, weaker-count-few (p .places) (p .count) (c .before .before .loop .k) (c .before .before .before .before .pre .few))
 
 loop-less : tie.Need-loop-less Inv-loop μ-loop
 loop-less c = search needs
@@ -43,15 +43,15 @@ loop-again c =
     let at = c .before .before .before in (
       omega arith,
       c .branched .ensures ∙ ap (branches _) (at .loop .inv .1)
-          ∙ sym (ways-turn (p .places) (p .count) (at .loop .k) blank (omega (arith, start .pre .few, start .pre .full)) (at .loop .inv .0) (c .before .before .loop-test .taken)),
+          ∙ sym (weaker-count-turn (p .places) (p .count) (at .loop .k) blank (omega (arith, start .pre .few, start .pre .full)) (at .loop .inv .0) (c .before .before .loop-test .taken)),
     )
 
 returns : tie.Need-returns Inv-loop μ-loop
 returns c =
-    c .before .loop .inv .1 ∙ ap waysOf (none-dropped (c .before .loop .k) (used (c .before .before .before .args .p)) (c .loop-test .left))
+    c .before .loop .inv .1 ∙ ap weakerCountOf (none-dropped (c .before .loop .k) (used (c .before .before .before .args .p)) (c .loop-test .left))
 
-pub ways-spec : {M : Type 1} → statement M
-ways-spec =
+pub weaker-count-spec : {M : Type 1} → statement M
+weaker-count-spec =
     tie.close
     (tie.spec
     Inv-loop
