@@ -32,8 +32,11 @@ const PANELS: [(&str, Timed); 4] = [
     ("the rest", |row| row.rest),
 ];
 
+/// One engine's median of what was timed.
+type Median = fn(Pair) -> f64;
+
 /// The engines with their strokes.
-const ENGINES: [(&str, &str, fn(Pair) -> f64); 2] = [
+const ENGINES: [(&str, &str, Median); 2] = [
     (engine::NAME, "", |pair| pair.under_test.median),
     ("fast sibling (dashed)", "6 4", |pair| pair.fast.median),
 ];
