@@ -1,19 +1,19 @@
 -- Soundness: every record of a row of good records is for a derivable formula.
 -- Assumes nothing.
-use Prim.Native.Nat.{ℕ, suc, _+_, _≤_, _<_}
+use Prim.Native.Nat.{ℕ, _<_}
 use mathlib.Core.Path.{_≡_, refl, sym, _∙_, ap, subst}
-use mathlib.Core.Logic.{_⊎_, inl, inr, ⊎-elim}
-use mathlib.Core.Bool.{Bool, true, false, _&&_, not, false≢true}
-use mathlib.Core.List.{List, [], _∷_, _++_, append-nil, append-assoc, reverse, List·Memᴰ, List·Memᴰ·head, List·Memᴰ·tail, List·Memᴰ·not-nil, List·Memᴰ·cases-cons, List·Memᴰ·append-cases, List·Memᴰ·eq-of-singleton, Memᴰ·append-left, Memᴰ·append-right}
+use mathlib.Core.Logic.{⊎-elim}
+use mathlib.Core.Bool.{true, false, _&&_, false≢true}
+use mathlib.Core.List.{List, [], _∷_, _++_, append-nil, append-assoc, reverse, List·Memᴰ, List·Memᴰ·not-nil, List·Memᴰ·append-cases, List·Memᴰ·eq-of-singleton}
 use lib.ListN.{length}
-use lib.Dec.{ltb, eqb}
-use borrow.Author.Tests.{ltb-true, eqb-true, eq-eqb, not-true}
+use lib.Dec.{eqb}
+use borrow.Author.Tests.{eqb-true, eq-eqb}
 use Rattle.infon.specs.declared.Way.{Way}
 use Rattle.infon.specs.declared.Way.the-variants.{Hypothesis, Given, Weaken, Left, Right, Both, Apply, Attach}
 use Rattle.infon.specs.declared.Record.{Record}
 use Rattle.infon.specs.Formula.{Formula, True, and, implies, isNamed, same}
-use Rattle.infon.specs.Listing.{Prefix, wrap, isListed}
-use Rattle.infon.specs.Calculus.{under, Weaker, Derives, hypothesis, given, weaken, left, right, both, apply, attach}
+use Rattle.infon.specs.Listing.{Prefix, wrap}
+use Rattle.infon.specs.Calculus.{under, Derives, hypothesis, given, weaken, left, right, both, apply, attach}
 use Rattle.infon.specs.Rules.{Shape, truth, primitive, conjunction, implication, shapeOf, weakenings, isTruth, isLeft, isRight, areBoth, isConclusion, isCondition, numbered, gives}
 use Rattle.infon.specs.Journal.{isRecorded, premisesIn, isGood}
 use Rattle.infon.proofs.Rows.{and-true, someOf-witness, witness-someOf}
