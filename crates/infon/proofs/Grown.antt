@@ -8,7 +8,7 @@ use mathlib.Core.Path.{_≡_, refl, sym, _∙_, ap}
 use mathlib.Core.Logic.{inl, inr}
 use mathlib.Core.Bool.{Bool, true, false, _&&_, not, false≢true}
 use mathlib.Core.Option.{Option, none, some, Option·none-ne-some}
-use mathlib.Core.List.{List, [], _∷_, _++_, map, append-assoc, append-nil, List·Memᴰ, List·Memᴰ·head, List·Memᴰ·tail, List·Memᴰ·append-cases, List·Memᴰ·eq-of-singleton, List·Memᴰ·cases-cons, List·Memᴰ·not-nil, nil≢cons, cons≢nil, head-eq-of-cons-eq, tail-eq-of-cons-eq}
+use mathlib.Core.List.{List, [], _∷_, _++_, map, append-assoc, append-nil, List·Memᴰ, List·Memᴰ·append-cases, List·Memᴰ·eq-of-singleton, List·Memᴰ·cases-cons, List·Memᴰ·not-nil, nil≢cons, cons≢nil, head-eq-of-cons-eq, tail-eq-of-cons-eq}
 use lib.ListN.{length, take, drop, take-append-drop}
 use lib.Dec.{ltb, eqb}
 use lib.Seq.{take-nil, take-all, take-append-seam}
@@ -16,11 +16,11 @@ use borrow.Author.Tests.{ltb-true, eqb-true, not-true}
 use Rattle.infon.specs.declared.Way.{Way}
 use Rattle.infon.specs.declared.Way.the-variants.{Hypothesis, Given, Weaken, Left, Right, Both, Apply, Attach}
 use Rattle.infon.specs.declared.Record.{Record}
-use Rattle.infon.specs.Bytes.{someOf, firstOf}
+use Rattle.infon.specs.Bytes.{firstOf}
 use Rattle.infon.specs.Formula.{Formula}
 use Rattle.infon.specs.Rules.{gives, numbered}
 use Rattle.infon.specs.Journal.{recordBytes, isRecorded, premisesIn, isGood, noPremise, firstPremise, secondPremise, spelled, spelledAll, decoded, wholeRecords, followed, onlyGood, keptAfter, next, hasNone, isFinished, grown, allRecords}
-use Rattle.infon.proofs.Rows.{and-true, or-true}
+use Rattle.infon.proofs.Rows.{and-true, someOf-witness}
 use Rattle.infon.proofs.Codec.{cond-cases, AreBytes, Small, decoded-spelled-each, spelledAll-decoded, wholeRecords-spelledAll}
 
 -- Each of the records is good after `done` and those before it.
@@ -58,17 +58,14 @@ firstOf-passes test (y ∷ ys) x e =
     ]
 
 -- a number that is recorded is some record's
-recorded-member : (p : ℕ) (done : List Record) → isRecorded p done ≡ true → (q : Record) × List·Memᴰ q done × (p ≡ q .formula)
-unfolding isRecorded someOf
-recorded-member p [] h = absurd (false≢true h)
-recorded-member p (r ∷ rest) h =
-    elim (or-true (eqb p (r .formula)) (isRecorded p rest) h) [
-      | inl here ↦ (r, List·Memᴰ·head refl, eqb-true p (r .formula) here)
-      | inr later ↦ let found = recorded-member p rest later in (found .0, List·Memᴰ·tail (found .1), found .2)
-    ]
+pub recorded-by : (n : ℕ) (done : List Record) → isRecorded n done ≡ true → (r : Record) × (List·Memᴰ r done × (n ≡ r .formula))
+unfolding isRecorded
+recorded-by n done h =
+    let found = someOf-witness (λ (r : Record). eqb n (r .formula)) done h in
+    (found .0, (found .1 .0, eqb-true n (found .0 .formula) (found .1 .1)))
 
 recorded-below : (n p : ℕ) (done : List Record) → Below n done → isRecorded p done ≡ true → p < n
-recorded-below n p done below h = let found = recorded-member p done h in rw (found .2) (below (found .0) (found .1))
+recorded-below n p done below h = let found = recorded-by p done h in rw (found .1 .1) (below (found .0) (found .1 .0))
 
 -- so each premise of a way fits in two bytes
 premises-small : (w : Way) (done : List Record) → Below 65536 done → premisesIn w done ≡ true → (firstPremise w < 65536) × (secondPremise w < 65536)
@@ -224,7 +221,7 @@ module _ (hyps fs : List Formula) where
   grown-none done zero e = refl
   grown-none done (suc n) e = rw e
 
-  grown-some : (done : List Record) (n : ℕ) (r : Record) → next hyps fs done ≡ some r → grown hyps fs done (suc n) ≡ r ∷ grown hyps fs (done ++ (r ∷ [])) n
+  pub grown-some : (done : List Record) (n : ℕ) (r : Record) → next hyps fs done ≡ some r → grown hyps fs done (suc n) ≡ r ∷ grown hyps fs (done ++ (r ∷ [])) n
   unfolding grown followed
   grown-some done n r e = rw e
 

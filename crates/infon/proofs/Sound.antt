@@ -7,7 +7,7 @@ use mathlib.Core.Bool.{true, false, _&&_, false≢true}
 use mathlib.Core.List.{List, [], _∷_, _++_, append-nil, append-assoc, reverse, List·Memᴰ, List·Memᴰ·not-nil, List·Memᴰ·append-cases, List·Memᴰ·eq-of-singleton}
 use lib.ListN.{length}
 use lib.Dec.{eqb}
-use borrow.Author.Tests.{eqb-true, eq-eqb}
+use borrow.Author.Tests.{eq-eqb}
 use Rattle.infon.specs.declared.Way.{Way}
 use Rattle.infon.specs.declared.Way.the-variants.{Hypothesis, Given, Weaken, Left, Right, Both, Apply, Attach}
 use Rattle.infon.specs.declared.Record.{Record}
@@ -16,12 +16,12 @@ use Rattle.infon.specs.Listing.{Prefix, wrap}
 use Rattle.infon.specs.Calculus.{under, Derives, hypothesis, given, weaken, left, right, both, apply, attach}
 use Rattle.infon.specs.Rules.{Shape, truth, primitive, conjunction, implication, shapeOf, weakenings, isTruth, isLeft, isRight, areBoth, isConclusion, isCondition, numbered, gives}
 use Rattle.infon.specs.Journal.{isRecorded, premisesIn, isGood}
-use Rattle.infon.proofs.Rows.{and-true, someOf-witness, witness-someOf}
+use Rattle.infon.proofs.Rows.{and-true, witness-someOf}
 use Rattle.infon.proofs.Same.{same-eq}
 use Rattle.infon.proofs.Prefixes.{listed-mem, wrap-under-reverse, weaker-reverse, shape-truth, shape-conjunction, shape-implication, weakenings-weaker}
 use Rattle.infon.proofs.Listed.{numbered-mem}
 use Rattle.infon.proofs.Least.{PremisesBelow}
-use Rattle.infon.proofs.Grown.{GoodRow, stop, more, good-parts}
+use Rattle.infon.proofs.Grown.{GoodRow, stop, more, good-parts, recorded-by}
 
 -- what the tests of a rule find, where they pass
 truth-found : (s : Shape) → isTruth s ≡ true → s ≡ truth
@@ -70,13 +70,7 @@ applied-found x y (implication l r) h =
     let parts = and-true (same x l) (same y r) h in
     λ i. implication (sym (same-eq x l (parts .0)) i) (sym (same-eq y r (parts .1)) i)
 
--- the number is that of one of the records
-pub recorded-by : (n : ℕ) (done : List Record) → isRecorded n done ≡ true → (r : Record) × (List·Memᴰ r done × (n ≡ r .formula))
-unfolding isRecorded
-recorded-by n done h =
-    let found = someOf-witness (λ (r : Record). eqb n (r .formula)) done h in
-    (found .0, (found .1 .0, eqb-true n (found .0 .formula) (found .1 .1)))
-
+-- a record's number is recorded
 pub by-recorded : (r : Record) (done : List Record) → List·Memᴰ r done → isRecorded (r .formula) done ≡ true
 unfolding isRecorded
 by-recorded r done m = witness-someOf (λ (s : Record). eqb (r .formula) (s .formula)) m (eq-eqb (r .formula) (r .formula) refl)

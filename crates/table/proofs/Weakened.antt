@@ -85,7 +85,7 @@ place-weaker put said p v w e h more =
 place-weaker put put p v w e h more =
     unchanged (putBy p) (more (let both = common-put put put v w e in omega arith))
 
-allPut-length : (w : Prefix) → length (allPut w) ≡ length w
+pub allPut-length : (w : Prefix) → length (allPut w) ≡ length w
 unfolding allPut
 allPut-length w = length-map w (λ (q : Quotation). record { told = put; principal = q .principal })
 
