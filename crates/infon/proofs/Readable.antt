@@ -11,7 +11,7 @@ use lib.Dec.{leb}
 use borrow.Author.Tests.{leb-true}
 use Rattle.infon.specs.Bytes.{bytes, lineFeed, space, alike, every}
 use Rattle.infon.specs.Formula.{Told, said, put, Formula, True, name, and, implies, quoted, isNameByte, isName, isNamed, letterOf, words, joined, spelling, tokens, joinTwo, quote, takeWord, takeNext, readWords, onlyOne, formulaOf}
-use Rattle.infon.proofs.Rows.{and-true, true-and, decided, alike-eq}
+use Rattle.infon.proofs.Rows.{and-true, true-and, or-false-both, decided, alike-eq}
 use Rattle.infon.proofs.Words.{picked, picked-alike, from-some, every-append, lacks, passed-lacks, joined-lacks, tokens-joined, joined-tokens}
 
 -- The words of a named formula, and the bytes of which they are made.
@@ -26,10 +26,6 @@ words-nonempty (quoted q x) = cons≢nil
 unfoldable pub isWordByte : ℕ → Bool
 isWordByte b = isNameByte b || not (lacks b (bytes "T+>SP"))
 
-or-false-left : (a b : Bool) → a || b ≡ false → a ≡ false
-or-false-left true b h = absurd (true≢false h)
-or-false-left false b h = refl
-
 pub name-positive : (a : List ℕ) → isName a ≡ true → 0 < length a
 unfolding isName
 name-positive a h =
@@ -39,7 +35,7 @@ name-positive a h =
 pub name-lacks : (b : ℕ) (a : List ℕ) → isWordByte b ≡ false → isName a ≡ true → lacks b a ≡ true
 unfolding isWordByte isName
 name-lacks b a outside h =
-    passed-lacks isNameByte b a (or-false-left (isNameByte b) (not (lacks b (bytes "T+>SP"))) outside)
+    passed-lacks isNameByte b a (or-false-both (isNameByte b) (not (lacks b (bytes "T+>SP"))) outside .0)
     (and-true (leb 1 (length a) && leb (length a) 16) (every isNameByte a) h .1)
 
 letter-lacks : (b : ℕ) (told : Told) → isWordByte b ≡ false → lacks b (letterOf told) ≡ true

@@ -5,7 +5,7 @@ use native.Mathlib.Nat.{le-of-suc-le-suc, not-suc-le-zero}
 use lib.ListN.{length, getD}
 use mathlib.Core.Path.{_≡_, refl}
 use mathlib.Core.Logic.{_⊎_, inl, inr, ⊎-elim}
-use mathlib.Core.Bool.{Bool, true, false, _&&_, _||_, false≢true}
+use mathlib.Core.Bool.{Bool, true, false, _&&_, _||_, false≢true, true≢false}
 use mathlib.Core.List.{List, [], _∷_, _++_, map, List·Memᴰ, List·Memᴰ·append-cases}
 use mathlib.Core.List.{List·Memᴰ·head, List·Memᴰ·tail}
 use lib.Dec.{eqb}
@@ -26,6 +26,10 @@ or-true false b h = inr h
 pub true-or : (a : Bool) {b : Bool} → b ≡ true → a || b ≡ true
 true-or true h = refl
 true-or false h = h
+
+pub or-false-both : (a b : Bool) → a || b ≡ false → (a ≡ false) × (b ≡ false)
+or-false-both true b h = absurd (true≢false h)
+or-false-both false b h = (refl, h)
 
 -- a test is passed or not
 pub decided : (b : Bool) → (b ≡ true) ⊎ (b ≡ false)

@@ -10,7 +10,7 @@ use mathlib.Core.List.{List}
 use lib.ListN.{length}
 use lib.Dec.{ltb}
 use borrow.Author.Tests.{lt-ltb, le-ltb}
-use Rattle.infon.specs.Formula.{put, Formula, True, name, and, implies, quoted, nodes}
+use Rattle.infon.specs.Formula.{Formula, True, name, and, implies, quoted, nodes}
 use Rattle.nodes.specs.Nodes.{Node, part, inner, nodeAt, countNodes, kindOf, nodesOf}
 use Rattle.nodes.proofs.Order.{nodes-positive, node-within, and-left, and-right, implies-left, implies-right, quoted-inner, quoted-high}
 use Rattle.policy.specs.Filling

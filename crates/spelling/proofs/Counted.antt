@@ -27,7 +27,7 @@ use Rattle.spelling.specs.declared.Cursor.{Cursor}
 use Rattle.spelling.specs.declared.Onward.the-variants.{Behind, Stuck}
 use Rattle.spelling.specs.Token.{isBreak, wordAt}
 use Rattle.spelling.specs.Parsing.{quotationAt, parsedAt, goneOn}
-use Rattle.spelling.proofs.Breaks.{word-fits, wordAt-length}
+use Rattle.spelling.proofs.Breaks.{until-fits, wordAt-length}
 use Rattle.spelling.proofs.Tokenised.{token-lacks, token-stands, token-stops, break-cases, feed-no-formula, first-token}
 
 -- so many formulas were read
@@ -258,7 +258,7 @@ module _ (text : List ℕ) (at needed : ℕ) (fits : at ≤ length text) (some-n
         stands = rw e (token-stands text at);
         stops = rw e (token-stops text at);
         forward = omega arith;
-        within = omega (arith, word-fits text at fits, wordAt-length text at);
+        within = omega (arith, until-fits isBreak text at fits, wordAt-length text at);
         few = few;
         effect = effect;
       }
@@ -296,7 +296,7 @@ module _ (text : List ℕ) (at needed : ℕ) (fits : at ≤ length text) (some-n
               ∙ sym (append-assoc (letterOf told) (space ∷ principal) (drop (at + 1 + 1 + length principal) text));
           stops = token-stops text (at + 1 + 1);
           forward = omega arith;
-          within = omega (arith, word-fits text (at + 1 + 1) (omega (arith, gap-within)), wordAt-length text (at + 1 + 1));
+          within = omega (arith, until-fits isBreak text (at + 1 + 1) (omega (arith, gap-within)), wordAt-length text (at + 1 + 1));
           few = omega arith;
           effect = quote-effect needed some-needed told principal named;
         }
