@@ -92,11 +92,6 @@ take-spelledAll n rs h =
     ∙ ap (take (recordBytes * n)) (spelledAll-append (take n rs) (drop n rs))
     ∙ take-at (spelledAll (take n rs)) (spelledAll (drop n rs)) (recordBytes * n) (rw (length-spelledAll, length-take-le n rs h))
 
-pub length-wholeRecords : (n : ℕ) (s : List ℕ) → length (wholeRecords n s) ≡ n
-unfolding wholeRecords
-length-wholeRecords zero s = refl
-length-wholeRecords (suc n) s = ap suc (length-wholeRecords n (drop recordBytes s))
-
 drop-take : (m n : ℕ) (s : List ℕ) → drop m (take (m + n) s) ≡ take n (drop m s)
 drop-take zero n s = rw zero-add
 drop-take (suc m) n [] = rw suc-add (sym (take-nil n))

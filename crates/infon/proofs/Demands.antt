@@ -16,7 +16,7 @@ use Rattle.infon.specs.declared.Record.{Record}
 use Rattle.infon.specs.declared.Answer.{Answer}
 use Rattle.infon.specs.declared.Answer.the-variants.{Open}
 use Rattle.infon.specs.Formula.{Formula, True, isNamed, spelling}
-use Rattle.infon.specs.Policy.{entriesOf, hypothesesOf, queriesOf, passed}
+use Rattle.infon.specs.Policy.{Sentence, sentenceOf, formulaIn, entriesOf, hypothesesOf, queriesOf, passed}
 use Rattle.infon.specs.Listing.{isListed, listOf}
 use Rattle.infon.specs.Calculus.{Derives}
 use Rattle.infon.specs.Rules.{numbered}
@@ -27,6 +27,7 @@ use Rattle.infon.proofs.Codec.{AreBytes, length-spelledAll, wholeRecord
 use Rattle.infon.proofs.Listed.{list-closed, hypotheses-listed, queries-listed, numbered-injective, code5-passed, numbered-mem}
 use Rattle.infon.proofs.Prefixes.{mem-listed}
 use Rattle.infon.proofs.Readable.{spelled-alike}
+use Rattle.infon.proofs.Lines.{lineOf, read-line, line-read}
 use Rattle.infon.proofs.Named.{listed-named}
 use Rattle.infon.proofs.Ascending.{first-least}
 use Rattle.infon.proofs.Least.{Before, all-ascend, all-has}
@@ -404,3 +405,7 @@ cut-as-uncut file journal used limit answers journal₀ used₀ limit₀ answers
 -- "Two formulas are equal exactly when they are spelled alike."
 pub equal-exactly : (x y : Formula) → isNamed x ≡ true → isNamed y ≡ true → (x ≡ y) ↔ (spelling x ≡ spelling y)
 equal-exactly x y named-x named-y = (λ e. ap spelling e, λ e. spelled-alike x y named-x named-y e)
+
+-- A line is read as a sentence exactly when it is that sentence's line and the sentence is of the language.
+pub read-exactly : (line : List ℕ) (s : Sentence) → (sentenceOf line ≡ some s) ↔ ((line ≡ lineOf s) × (isNamed (formulaIn s) ≡ true))
+read-exactly line s = (line-read line s, λ spelled. ap sentenceOf (spelled .0) ∙ read-line s (spelled .1))

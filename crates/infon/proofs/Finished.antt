@@ -4,19 +4,17 @@ use Prim.Native.Nat.{ℕ, _<_}
 use mathlib.Core.Path.{_≡_, refl, sym, _∙_, ap, subst}
 use mathlib.Core.Logic.{⊎-elim}
 use mathlib.Core.Bool.{true, false, not, false≢true}
-use mathlib.Core.Option.{Option, none, some}
 use mathlib.Core.List.{List, List·Memᴰ}
 use lib.ListN.{length}
 use borrow.Author.Tests.{lt-ltb}
 use Rattle.infon.specs.declared.Way.{Way}
 use Rattle.infon.specs.declared.Way.the-variants.{Hypothesis, Given, Weaken, Left, Right, Both, Apply, Attach}
 use Rattle.infon.specs.declared.Record.{Record}
-use Rattle.infon.specs.Bytes.{firstOf}
 use Rattle.infon.specs.Formula.{Formula, True, and, implies, isNamed, same}
 use Rattle.infon.specs.Listing.{Prefix, wrap, isListed}
 use Rattle.infon.specs.Calculus.{Weaker, Derives}
 use Rattle.infon.specs.Rules.{shapeOf, isTruth, isLeft, isRight, areBoth, isConclusion, isCondition, numbered, gives}
-use Rattle.infon.specs.Journal.{isRecorded, premisesIn, isGood, allRecords, next, hasNone, isFinished}
+use Rattle.infon.specs.Journal.{isRecorded, premisesIn, isGood, allRecords, next, isFinished}
 use Rattle.infon.specs.Run.{isOnRecord}
 use Rattle.infon.proofs.Rows.{true-and, decided, someOf-witness, witness-someOf}
 use Rattle.infon.proofs.Same.{same-refl, same-eq}
@@ -25,23 +23,16 @@ use Rattle.infon.proofs.Listed.{listed-number, numbered-mem}
 use Rattle.infon.proofs.Locality.{Closed, Complete, derivable-recorded}
 use Rattle.infon.proofs.Ascending.{first-none}
 use Rattle.infon.proofs.Least.{PremisesBelow, all-has}
-use Rattle.infon.proofs.Sound.{Sound, premise-derived, recorded-by, by-recorded}
-
-has-none : (o : Option Record) → hasNone o ≡ true → o ≡ none
-unfolding hasNone
-has-none none h = refl
-has-none (some r) h = absurd (false≢true h)
+use Rattle.infon.proofs.Grown.{recorded-by, finished-none}
+use Rattle.infon.proofs.Sound.{Sound, premise-derived, by-recorded}
 
 module _ (hyps fs : List Formula) where
-  none-next : (done : List Record) → isFinished hyps fs done ≡ true → firstOf (isGood hyps fs done) (allRecords (length fs)) ≡ none
-  unfolding isFinished next
-  none-next done finished = has-none (firstOf (isGood hyps fs done) (allRecords (length fs))) finished
-
   -- in a finished journal no record is good
   none-good : (done : List Record) (r : Record) → isFinished hyps fs done ≡ true → r .formula < length fs
       → PremisesBelow (length fs) (r .way) → isGood hyps fs done r ≡ false
+  unfolding next
   none-good done r finished low premises =
-      first-none (isGood hyps fs done) (allRecords (length fs)) (none-next done finished) r (all-has (length fs) r low premises)
+      first-none (isGood hyps fs done) (allRecords (length fs)) (finished-none hyps fs done finished) r (all-has (length fs) r low premises)
 
   is-good : (done : List Record) (r : Record) → r .formula < length fs → isRecorded (r .formula) done ≡ false
       → premisesIn (r .way) done ≡ true → gives hyps fs (r .way) (numbered fs (r .formula)) ≡ true → isGood hyps fs done r ≡ true

@@ -1,26 +1,26 @@
 -- Rows of records each good after those before it: the kept part is the longest such row, growth adds such rows one record at
 -- a time, and what they spell is kept again.
 -- Assumes nothing.
-use Prim.Native.Nat.{ℕ, zero, suc, _+_, _*_, _≤_, _<_, zero-le, suc-le-suc, min}
+use Prim.Native.Nat.{ℕ, zero, suc, _+_, _*_, _≤_, _<_, suc-le-suc, min}
 use native.Mathlib.Nat.{le-of-suc-le-suc, not-suc-le-zero, zero-add, add-comm, suc-add, suc-min-suc, zero-min, min-zero}
 use native.Mathlib.Omega.{arith}
 use mathlib.Core.Path.{_≡_, refl, sym, _∙_, ap}
-use mathlib.Core.Logic.{_⊎_, inl, inr}
+use mathlib.Core.Logic.{inl, inr}
 use mathlib.Core.Bool.{Bool, true, false, _&&_, not, false≢true}
-use mathlib.Core.Option.{Option, none, some, Option·none-ne-some, Option·some-ne-none}
-use mathlib.Core.List.{List, [], _∷_, _++_, map, append-assoc, append-nil, List·Memᴰ, List·Memᴰ·head, List·Memᴰ·tail, List·Memᴰ·append-cases, List·Memᴰ·eq-of-singleton, List·Memᴰ·cases-cons, List·Memᴰ·not-nil, nil≢cons, cons≢nil, head-eq-of-cons-eq, tail-eq-of-cons-eq}
-use lib.ListN.{length, take, drop, getD, take-append-drop}
+use mathlib.Core.Option.{Option, none, some, Option·none-ne-some}
+use mathlib.Core.List.{List, [], _∷_, _++_, map, append-assoc, append-nil, List·Memᴰ, List·Memᴰ·append-cases, List·Memᴰ·eq-of-singleton, List·Memᴰ·cases-cons, List·Memᴰ·not-nil, nil≢cons, cons≢nil, head-eq-of-cons-eq, tail-eq-of-cons-eq}
+use lib.ListN.{length, take, drop, take-append-drop}
 use lib.Dec.{ltb, eqb}
 use lib.Seq.{take-nil, take-all, take-append-seam}
 use borrow.Author.Tests.{ltb-true, eqb-true, not-true}
 use Rattle.infon.specs.declared.Way.{Way}
 use Rattle.infon.specs.declared.Way.the-variants.{Hypothesis, Given, Weaken, Left, Right, Both, Apply, Attach}
 use Rattle.infon.specs.declared.Record.{Record}
-use Rattle.infon.specs.Bytes.{someOf, firstOf}
+use Rattle.infon.specs.Bytes.{firstOf}
 use Rattle.infon.specs.Formula.{Formula}
 use Rattle.infon.specs.Rules.{gives, numbered}
 use Rattle.infon.specs.Journal.{recordBytes, isRecorded, premisesIn, isGood, noPremise, firstPremise, secondPremise, spelled, spelledAll, decoded, wholeRecords, followed, onlyGood, keptAfter, next, hasNone, isFinished, grown, allRecords}
-use Rattle.infon.proofs.Rows.{and-true, or-true}
+use Rattle.infon.proofs.Rows.{and-true, someOf-witness}
 use Rattle.infon.proofs.Codec.{cond-cases, AreBytes, Small, decoded-spelled-each, spelledAll-decoded, wholeRecords-spelledAll}
 
 -- Each of the records is good after `done` and those before it.
@@ -58,17 +58,14 @@ firstOf-passes test (y ∷ ys) x e =
     ]
 
 -- a number that is recorded is some record's
-recorded-member : (p : ℕ) (done : List Record) → isRecorded p done ≡ true → (q : Record) × List·Memᴰ q done × (p ≡ q .formula)
-unfolding isRecorded someOf
-recorded-member p [] h = absurd (false≢true h)
-recorded-member p (r ∷ rest) h =
-    elim (or-true (eqb p (r .formula)) (isRecorded p rest) h) [
-      | inl here ↦ (r, List·Memᴰ·head refl, eqb-true p (r .formula) here)
-      | inr later ↦ let found = recorded-member p rest later in (found .0, List·Memᴰ·tail (found .1), found .2)
-    ]
+pub recorded-by : (n : ℕ) (done : List Record) → isRecorded n done ≡ true → (r : Record) × (List·Memᴰ r done × (n ≡ r .formula))
+unfolding isRecorded
+recorded-by n done h =
+    let found = someOf-witness (λ (r : Record). eqb n (r .formula)) done h in
+    (found .0, (found .1 .0, eqb-true n (found .0 .formula) (found .1 .1)))
 
 recorded-below : (n p : ℕ) (done : List Record) → Below n done → isRecorded p done ≡ true → p < n
-recorded-below n p done below h = let found = recorded-member p done h in rw (found .2) (below (found .0) (found .1))
+recorded-below n p done below h = let found = recorded-by p done h in rw (found .1 .1) (below (found .0) (found .1 .0))
 
 -- so each premise of a way fits in two bytes
 premises-small : (w : Way) (done : List Record) → Below 65536 done → premisesIn w done ≡ true → (firstPremise w < 65536) × (secondPremise w < 65536)
@@ -110,16 +107,6 @@ module _ (hyps fs : List Formula) where
       elim (cond-cases (isGood hyps fs done q) (some q) none (some r) e) [
         | inl good ↦ let same : q ≡ r = cc in (good .1, rw (← same) (good .0))
         | inr bad ↦ absurd (Option·none-ne-some r (bad .1))
-      ]
-
-  onlyGood-none : (done : List Record) (o : Option Record) → onlyGood hyps fs done o ≡ none
-      → (o ≡ none) ⊎ ((r : Record) × (o ≡ some r) × (isGood hyps fs done r ≡ false))
-  unfolding onlyGood
-  onlyGood-none done none e = inl refl
-  onlyGood-none done (some q) e =
-      elim (cond-cases (isGood hyps fs done q) (some q) none none e) [
-        | inl good ↦ absurd (Option·some-ne-none q (good .1))
-        | inr bad ↦ inr (q, refl, bad .0)
       ]
 
   pub next-good : (done : List Record) (r : Record) → next hyps fs done ≡ some r → isGood hyps fs done r ≡ true
@@ -202,21 +189,6 @@ module _ (hyps fs : List Formula) where
       → take (recordBytes * length (keptAfter hyps fs done (wholeRecords n s))) s ≡ spelledAll (keptAfter hyps fs done (wholeRecords n s))
   kept-spelled done n s bytes h = spelledAll-decoded (keptAfter hyps fs done (wholeRecords n s)) n s bytes h (kept-decoded done (wholeRecords n s))
 
-  keeping-stops : (done : List Record) (cs : List (List ℕ)) (xs : List Record) → Keeping hyps fs done cs xs → length xs < length cs
-      → onlyGood hyps fs (done ++ xs) (decoded (getD cs (length xs) [])) ≡ none
-  keeping-stops done cs xs (through _) h = absurd (not-suc-le-zero h)
-  keeping-stops done cs xs (broken _ s rest e) h = rw append-nil e
-  keeping-stops done cs xs (held _ s rest r ys e later) h = rw append-assoc at (keeping-stops (done ++ (r ∷ [])) rest ys later (le-of-suc-le-suc h))
-
-  -- where the kept part ends before the rows of bytes do, the next of them spells no record, or one that is not good
-  pub kept-stops : (done : List Record) (cs : List (List ℕ)) → length (keptAfter hyps fs done cs) < length cs
-      → (decoded (getD cs (length (keptAfter hyps fs done cs)) []) ≡ none)
-      ⊎ ((r : Record) × (decoded (getD cs (length (keptAfter hyps fs done cs)) []) ≡ some r)
-      × (isGood hyps fs (done ++ keptAfter hyps fs done cs) r ≡ false))
-  kept-stops done cs h =
-      onlyGood-none (done ++ keptAfter hyps fs done cs) (decoded (getD cs (length (keptAfter hyps fs done cs)) []))
-      (keeping-stops done cs (keptAfter hyps fs done cs) (kept-keeping done cs) h)
-
   kept-some : (done : List Record) (s : List ℕ) (cs : List (List ℕ)) (r : Record) → decoded s ≡ some r → isGood hyps fs done r ≡ true
       → keptAfter hyps fs done (s ∷ cs) ≡ r ∷ keptAfter hyps fs (done ++ (r ∷ [])) cs
   unfolding keptAfter onlyGood followed
@@ -249,7 +221,7 @@ module _ (hyps fs : List Formula) where
   grown-none done zero e = refl
   grown-none done (suc n) e = rw e
 
-  grown-some : (done : List Record) (n : ℕ) (r : Record) → next hyps fs done ≡ some r → grown hyps fs done (suc n) ≡ r ∷ grown hyps fs (done ++ (r ∷ [])) n
+  pub grown-some : (done : List Record) (n : ℕ) (r : Record) → next hyps fs done ≡ some r → grown hyps fs done (suc n) ≡ r ∷ grown hyps fs (done ++ (r ∷ [])) n
   unfolding grown followed
   grown-some done n r e = rw e
 
@@ -274,11 +246,6 @@ module _ (hyps fs : List Formula) where
   growth-add done xs a b (grew _ n r rest e later) =
       rw (suc-add, grown-some done (n + b) r e, growth-add (done ++ (r ∷ [])) rest n b later, append-assoc)
 
-  growth-short : (done xs : List Record) (n : ℕ) → Growth hyps fs done n xs → length xs ≤ n
-  growth-short done xs n (limited _) = zero-le
-  growth-short done xs n (none-next _ _ e) = zero-le
-  growth-short done xs n (grew _ m r rest e later) = suc-le-suc (growth-short (done ++ (r ∷ [])) rest m later)
-
   growth-finished : (done xs : List Record) (n : ℕ) → Growth hyps fs done n xs → length xs < n → isFinished hyps fs (done ++ xs) ≡ true
   growth-finished done xs n (limited _) h = absurd (not-suc-le-zero h)
   growth-finished done xs n (none-next _ _ e) h = rw append-nil (none-finished done e)
@@ -296,9 +263,6 @@ module _ (hyps fs : List Formula) where
   -- what a and then b records add is what a + b records add
   pub grown-add : (done : List Record) (a b : ℕ) → grown hyps fs done (a + b) ≡ grown hyps fs done a ++ grown hyps fs (done ++ grown hyps fs done a) b
   grown-add done a b = growth-add done (grown hyps fs done a) a b (grown-growth done a)
-
-  pub grown-short : (done : List Record) (n : ℕ) → length (grown hyps fs done n) ≤ n
-  grown-short done n = growth-short done (grown hyps fs done n) n (grown-growth done n)
 
   -- a row that stays below its limit ends finished
   pub grown-finished : (done : List Record) (n : ℕ) → length (grown hyps fs done n) < n → isFinished hyps fs (done ++ grown hyps fs done n) ≡ true

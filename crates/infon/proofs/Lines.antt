@@ -1,20 +1,17 @@
--- A file cut into lines, and the sentence on a line. The lines put together are the file; a line that ends in a line feed is
--- cut off; a named sentence is read from its line, and whatever is read is named and stands on such a line.
+-- A file cut into lines, and the sentence on a line. The lines put together are the file; a line feed ends
+-- its line; a named sentence is read from its line, and whatever is read is named and stands on such a line.
 -- Assumes nothing.
 use Prim.Native.Nat.{ℕ}
 use mathlib.Core.Path.{_≡_, refl, sym, _∙_, ap, subst₂}
-use mathlib.Core.Bool.{Bool, true, false, cond}
+use mathlib.Core.Bool.{true, false, cond}
 use mathlib.Core.Option.{some, Option·none-ne-some, Option·some-injective}
 use mathlib.Core.List.{List, [], _∷_, _++_, flatten}
-use native.Mathlib.Omega.{arith}
-use lib.ListN.{length}
-use lib.Dec.{leb, eqb}
-use borrow.Author.Tests.{eqb-true, le-leb}
-use Rattle.infon.specs.Bytes.{bytes, lineFeed, alike, every}
+use lib.Dec.{eqb}
+use borrow.Author.Tests.{eqb-true}
+use Rattle.infon.specs.Bytes.{bytes, lineFeed, alike}
 use Rattle.infon.specs.Formula.{Formula, isNamed, spelling, onto, formulaOf}
 use Rattle.infon.specs.Policy.{cut, Sentence, hypothesis, query, says, inFront, beforeFeed, read, sentenceOf, formulaIn}
-use Rattle.infon.proofs.Rows.{and-true, true-and}
-use Rattle.infon.proofs.Words.{picked, picked-alike, from-some, lacks, lacks-cons}
+use Rattle.infon.proofs.Words.{picked, picked-alike, from-some}
 use Rattle.infon.proofs.Readable.{read-spelling, spelling-read}
 
 -- Lines.
@@ -37,38 +34,6 @@ cut-lineFeed s = refl
 pub cut-byte : (b : ℕ) (s : List ℕ) → eqb b lineFeed ≡ false → cut (b ∷ s) ≡ onto b (cut s)
 unfolding cut
 cut-byte b s h = ap (λ t. cond t ((b ∷ []) ∷ cut s) (onto b (cut s))) h
-
-pub cut-line : (t rest : List ℕ) → lacks lineFeed t ≡ true → cut (t ++ (lineFeed ∷ rest)) ≡ (t ++ (lineFeed ∷ [])) ∷ cut rest
-unfolding onto
-cut-line [] rest h = cut-lineFeed rest
-cut-line (b ∷ t) rest h =
-    let both = lacks-cons lineFeed b t h in
-    cut-byte b (t ++ (lineFeed ∷ rest)) (both .0) ∙ ap (onto b) (cut-line t rest (both .1))
-
-pub cut-rest : (b : ℕ) (t : List ℕ) → lacks lineFeed (b ∷ t) ≡ true → cut (b ∷ t) ≡ (b ∷ t) ∷ []
-unfolding cut onto
-cut-rest b [] h = cut-byte b [] (lacks-cons lineFeed b [] h .0)
-cut-rest b (c ∷ t) h =
-    let both = lacks-cons lineFeed b (c ∷ t) h in
-    cut-byte b (c ∷ t) (both .0) ∙ ap (onto b) (cut-rest c t (both .1))
-
-abbrev pub isNonempty : List ℕ → Bool
-isNonempty line = leb 1 (length line)
-
-cons-nonempty : (b : ℕ) (t : List ℕ) → isNonempty (b ∷ t) ≡ true
-cons-nonempty b t = le-leb 1 (length (b ∷ t)) (omega arith)
-
-onto-nonempty : (b : ℕ) (lines : List (List ℕ)) → every isNonempty lines ≡ true → every isNonempty (onto b lines) ≡ true
-unfolding onto every
-onto-nonempty b [] h = true-and (cons-nonempty b []) refl
-onto-nonempty b (line ∷ rest) h = true-and (cons-nonempty b line) (and-true (isNonempty line) (every isNonempty rest) h .1)
-
-pub cut-nonempty : (s : List ℕ) → every isNonempty (cut s) ≡ true
-unfolding cut every
-cut-nonempty [] = refl
-cut-nonempty (b ∷ s) =
-    elim (eqb b lineFeed) as (λ t. every isNonempty (cond t ((b ∷ []) ∷ cut s) (onto b (cut s))) ≡ true)
-    [ true ↦ cut-nonempty s | false ↦ onto-nonempty b (cut s) (cut-nonempty s) ]
 
 -- The line feed that ends a line.
 pub beforeFeed-ended : (text : List ℕ) → beforeFeed (text ++ (lineFeed ∷ [])) ≡ some text

@@ -2,7 +2,7 @@
 -- formulas, and code 5.
 -- Assumes nothing.
 use Prim.Native.Nat.{ℕ, zero, suc, _≤_, _<_, zero-le, suc-le-suc}
-use native.Mathlib.Nat.{le-of-suc-le-suc, not-suc-le-zero, le-trans}
+use native.Mathlib.Nat.{le-of-suc-le-suc, not-suc-le-zero}
 use native.Mathlib.Omega.{arith}
 use mathlib.Core.Path.{_≡_, refl, sym, _∙_, ap, subst}
 use mathlib.Core.Logic.{_⊎_, inl, inr, ⊎-elim}
@@ -12,7 +12,7 @@ use mathlib.Core.List.{List·Memᴰ·not-nil, List·Memᴰ·cases-cons, List·Me
 use mathlib.Core.List.{Memᴰ·cast, Memᴰ·append-left, Memᴰ·append-right}
 use lib.ListN.{length, length-append}
 use lib.Dec.{ltb}
-use borrow.Author.Tests.{ltb-false, le-ltb}
+use borrow.Author.Tests.{ltb-false}
 use Rattle.infon.specs.Formula.{Formula, True, name, and, implies, quoted}
 use Rattle.infon.specs.Policy.{Sentence, hypothesis, query, Entry, formulaIn, hypothesesOf, queriesOf, Verdict, passed, andThen, when}
 use Rattle.infon.specs.Listing.{Prefix, wrap, weakened, weakenedBases, isListed, enlist, listFrom, listOf, mostListed, code5From, code5}
@@ -119,12 +119,6 @@ listFrom-enlist fs [] = refl
 listFrom-enlist fs (e ∷ rest) =
     let now = weakenedBases [] (formulaIn (e .sentence)) in
     listFrom-enlist (enlist fs now) rest ∙ sym (enlist-append fs now (unskipped rest))
-
-pub listFrom-begins : (fs : List Formula) (es : List Entry) → Begins fs (listFrom fs es)
-listFrom-begins fs es = rw (listFrom-enlist fs es) (enlist-begins fs (unskipped es))
-
-pub listFrom-keeps : (fs : List Formula) (es : List Entry) {x : Formula} → List·Memᴰ x fs → List·Memᴰ x (listFrom fs es)
-listFrom-keeps fs es m = begins-keeps (listFrom-begins fs es) m
 
 pub listFrom-has : (fs : List Formula) (es : List Entry) {x : Formula} → List·Memᴰ x (unskipped es) → List·Memᴰ x (listFrom fs es)
 listFrom-has fs es m = rw (listFrom-enlist fs es) (enlist-has fs m)
@@ -365,18 +359,6 @@ code5From-passed fs (e ∷ rest) few h =
     let both = when-passed (ltb mostListed (length now)) 5 (e .start) h in
     code5From-passed now rest (ltb-false mostListed (length now) (both .0)) (both .1)
 
-passed-code5From : (fs : List Formula) (es : List Entry) → length (listFrom fs es) ≤ mostListed → code5From fs es ≡ passed
-unfolding code5From listFrom andThen when
-passed-code5From fs [] h = refl
-passed-code5From fs (e ∷ rest) h =
-    let now = enlist fs (weakenedBases [] (formulaIn (e .sentence))) in
-    let few = le-trans (begins-shorter (listFrom-begins now rest)) h in
-    rw (le-ltb mostListed (length now) few) (passed-code5From now rest h)
-
 pub code5-passed : (entries : List Entry) → code5 entries ≡ passed → length (listOf entries) ≤ 4096
 unfolding code5 listOf mostListed
 code5-passed entries h = code5From-passed [] entries zero-le h
-
-pub passed-code5 : (entries : List Entry) → length (listOf entries) ≤ 4096 → code5 entries ≡ passed
-unfolding code5 listOf mostListed
-passed-code5 entries h = passed-code5From [] entries h

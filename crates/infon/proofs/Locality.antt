@@ -3,8 +3,8 @@
 -- pref name does not, a conjunction holds if both parts do, an implication if its right part does. Where the records are closed
 -- under the rules on the list, all eight rules keep this value.
 -- Assumes nothing.
-use mathlib.Core.Path.{_≡_, refl, sym, _∙_, ap, subst}
-use mathlib.Core.Logic.{_⊎_, inl, inr, ⊎-elim}
+use mathlib.Core.Path.{_≡_, refl, sym, _∙_}
+use mathlib.Core.Logic.{⊎-elim}
 use mathlib.Core.Bool.{Bool, true, false, cond, _&&_, false≢true}
 use mathlib.Core.List.{List, [], _∷_, reverseAux, reverse, List·Memᴰ}
 use Rattle.infon.specs.Formula.{Quotation, Formula, True, name, and, implies, quoted}

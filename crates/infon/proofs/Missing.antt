@@ -17,11 +17,11 @@ use Rattle.infon.specs.Bytes.{someOf}
 use Rattle.infon.specs.Formula.{Formula}
 use Rattle.infon.specs.Calculus.{Derives}
 use Rattle.infon.specs.Rules.{numbered}
-use Rattle.infon.specs.Journal.{isRecorded, isGood, numbersFrom, next, isFinished, hasNone, followed, grown}
+use Rattle.infon.specs.Journal.{isRecorded, isGood, numbersFrom, next, isFinished, hasNone, grown}
 use Rattle.infon.specs.Run.{Missing, no-more, recorded, underivable, missing}
 use Rattle.infon.proofs.Rows.{decided}
 use Rattle.infon.proofs.Counting.{countOf, count-passed, count-failed, count-alike, count-at-most, count-gained, from-above, from-length}
-use Rattle.infon.proofs.Grown.{GoodRow, stop, more, grown-good, good-append, finished-grown, grown-full, finished-add, next-good}
+use Rattle.infon.proofs.Grown.{GoodRow, stop, more, grown-good, good-append, finished-grown, grown-full, grown-some, finished-add, next-good}
 use Rattle.infon.proofs.Sound.{Sound, good-is, good-derives, premise-derived, sound-more, sound-row, sound-empty}
 use Rattle.infon.proofs.Finished.{List-of, derivable-recorded-number}
 
@@ -104,11 +104,6 @@ module _ (hyps fs : List Formula) where
       let sum = length-append done longer in
       grown-full hyps fs done n (omega arith)
 
-  grown-next : (done : List Record) (n : ℕ) (r : Record) → next hyps fs done ≡ some r
-      → grown hyps fs done (suc n) ≡ r ∷ grown hyps fs (done ++ (r ∷ [])) n
-  unfolding grown followed
-  grown-next done n r e = rw e
-
 module _ (hyps fs : List Formula) (lists : List-of hyps fs) where
   -- the finished journal from empty decides which formulas are derivable
   final : List Record
@@ -168,7 +163,7 @@ module _ (hyps fs : List Formula) (lists : List-of hyps fs) where
       (λ due.
       let r = due .0 in
       let h = next-good hyps fs done r (due .1) in
-      ap length (grown-next hyps fs done n r (due .1))
+      ap length (grown-some hyps fs done n r (due .1))
       ∙ (ap suc (grown-count (done ++ (r ∷ [])) n (sound-more hyps fs (lists .named) done r sound h))
       ∙ (sym (suc-min-suc n (missingCount (done ++ (r ∷ [])))) ∙ ap (min (suc n)) (sym (one-less done r sound h)))))
       (finished-or-next hyps fs done)

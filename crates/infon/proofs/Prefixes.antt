@@ -24,10 +24,6 @@ pub mem-listed : {x : Formula} {fs : List Formula} → List·Memᴰ x fs → isL
 unfolding isListed
 mem-listed {x} m = witness-someOf (same x) m (same-refl x)
 
-pub weaker-refl : (w : Prefix) → Weaker w w
-weaker-refl [] = end
-weaker-refl (q ∷ outer) = unchanged q (weaker-refl outer)
-
 pub weaker-trans : {u v w : Prefix} → Weaker u v → Weaker v w → Weaker u w
 weaker-trans end more = more
 weaker-trans (unchanged q less) (unchanged r more) = unchanged q (weaker-trans less more)
@@ -170,10 +166,6 @@ shape-wrap (q ∷ outer) x = shape-wrap outer (quoted q x)
 pub shape-wrap-True : (w : Prefix) → shapeOf (wrap w True) ≡ truth
 unfolding shapeUnder
 shape-wrap-True w = shape-wrap w True
-
-pub shape-wrap-name : (w : Prefix) (a : List ℕ) → shapeOf (wrap w (name a)) ≡ primitive
-unfolding shapeUnder
-shape-wrap-name w a = shape-wrap w (name a)
 
 pub shape-wrap-and : (w : Prefix) (x y : Formula) → shapeOf (wrap w (and x y)) ≡ conjunction (wrap w x) (wrap w y)
 unfolding shapeUnder

@@ -1,6 +1,6 @@
 -- Unique readability: a named formula is read from its spelling, and whatever is read is named and spelled so.
 -- Assumes nothing.
-use Prim.Native.Nat.{ℕ}
+use Prim.Native.Nat.{ℕ, _<_}
 use mathlib.Core.Path.{_≡_, refl, sym, _∙_, ap}
 use mathlib.Core.Logic.{_⊎_, inl, inr, _≢_}
 use mathlib.Core.Bool.{Bool, true, false, _&&_, _||_, not, true≢false, and-assoc}
@@ -8,9 +8,10 @@ use mathlib.Core.Option.{Option, none, some, Option·none-ne-some, Option·some-
 use mathlib.Core.List.{List, [], _∷_, _++_, flatMap, append-assoc, append-nil, cons≢nil}
 use lib.ListN.{length}
 use lib.Dec.{leb}
+use borrow.Author.Tests.{leb-true}
 use Rattle.infon.specs.Bytes.{bytes, lineFeed, space, alike, every}
 use Rattle.infon.specs.Formula.{Told, said, put, Formula, True, name, and, implies, quoted, isNameByte, isName, isNamed, letterOf, words, joined, spelling, tokens, joinTwo, quote, takeWord, takeNext, readWords, onlyOne, formulaOf}
-use Rattle.infon.proofs.Rows.{and-true, true-and, decided, alike-eq}
+use Rattle.infon.proofs.Rows.{and-true, true-and, or-false-both, decided, alike-eq}
 use Rattle.infon.proofs.Words.{picked, picked-alike, from-some, every-append, lacks, passed-lacks, joined-lacks, tokens-joined, joined-tokens}
 
 -- The words of a named formula, and the bytes of which they are made.
@@ -25,14 +26,16 @@ words-nonempty (quoted q x) = cons≢nil
 unfoldable pub isWordByte : ℕ → Bool
 isWordByte b = isNameByte b || not (lacks b (bytes "T+>SP"))
 
-or-false-left : (a b : Bool) → a || b ≡ false → a ≡ false
-or-false-left true b h = absurd (true≢false h)
-or-false-left false b h = refl
+pub name-positive : (a : List ℕ) → isName a ≡ true → 0 < length a
+unfolding isName
+name-positive a h =
+    leb-true 1 (length a)
+    (and-true (leb 1 (length a)) (leb (length a) 16) (and-true (leb 1 (length a) && leb (length a) 16) (every isNameByte a) h .0) .0)
 
 pub name-lacks : (b : ℕ) (a : List ℕ) → isWordByte b ≡ false → isName a ≡ true → lacks b a ≡ true
 unfolding isWordByte isName
 name-lacks b a outside h =
-    passed-lacks isNameByte b a (or-false-left (isNameByte b) (not (lacks b (bytes "T+>SP"))) outside)
+    passed-lacks isNameByte b a (or-false-both (isNameByte b) (not (lacks b (bytes "T+>SP"))) outside .0)
     (and-true (leb 1 (length a) && leb (length a) 16) (every isNameByte a) h .1)
 
 letter-lacks : (b : ℕ) (told : Told) → isWordByte b ≡ false → lacks b (letterOf told) ≡ true

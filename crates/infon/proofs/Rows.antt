@@ -3,16 +3,14 @@
 use Prim.Native.Nat.{ℕ, zero, suc, _<_}
 use native.Mathlib.Nat.{le-of-suc-le-suc, not-suc-le-zero}
 use lib.ListN.{length, getD}
-use mathlib.Core.Path.{_≡_, refl, sym, _∙_, ap, subst}
+use mathlib.Core.Path.{_≡_, refl}
 use mathlib.Core.Logic.{_⊎_, inl, inr, ⊎-elim}
-use mathlib.Core.Bool.{Bool, true, false, cond, _&&_, _||_, not, false≢true, true≢false}
-use mathlib.Core.Option.{Option, none, some}
-use mathlib.Core.List.{List, [], _∷_, _++_, map, List·Memᴰ, List·Memᴰ·not-nil, List·Memᴰ·cases-cons, List·Memᴰ·append-cases, Memᴰ·cast}
+use mathlib.Core.Bool.{Bool, true, false, _&&_, _||_, false≢true, true≢false}
+use mathlib.Core.List.{List, [], _∷_, _++_, map, List·Memᴰ, List·Memᴰ·append-cases}
 use mathlib.Core.List.{List·Memᴰ·head, List·Memᴰ·tail}
-use mathlib.Core.List
 use lib.Dec.{eqb}
 use borrow.Author.Tests.{eqb-true, eq-eqb}
-use Rattle.infon.specs.Bytes.{alike, every, someOf, firstOf}
+use Rattle.infon.specs.Bytes.{alike, someOf}
 
 pub and-true : (a b : Bool) → a && b ≡ true → (a ≡ true) × (b ≡ true)
 and-true true b h = (refl, h)
@@ -29,10 +27,19 @@ pub true-or : (a : Bool) {b : Bool} → b ≡ true → a || b ≡ true
 true-or true h = refl
 true-or false h = h
 
+pub or-false-both : (a b : Bool) → a || b ≡ false → (a ≡ false) × (b ≡ false)
+or-false-both true b h = absurd (true≢false h)
+or-false-both false b h = (refl, h)
+
 -- a test is passed or not
 pub decided : (b : Bool) → (b ≡ true) ⊎ (b ≡ false)
 decided true = inl refl
 decided false = inr refl
+
+-- a test that is not passed fails
+pub not-true-false : (b : Bool) → (b ≡ true → ⊥) → b ≡ false
+not-true-false true h = absurd (h refl)
+not-true-false false h = refl
 
 pub alike-refl : (s : List ℕ) → alike s s ≡ true
 unfolding alike

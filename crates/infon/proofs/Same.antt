@@ -1,7 +1,7 @@
 -- `same` is equality of formulas.
 -- Assumes nothing.
 use mathlib.Core.Path.{_≡_, refl}
-use mathlib.Core.Bool.{true, false, false≢true}
+use mathlib.Core.Bool.{true, false≢true}
 use Rattle.infon.specs.Bytes.{alike}
 use Rattle.infon.specs.Formula.{Told, said, put, Quotation, Formula, True, name, and, implies, quoted, sameTold, sameQuotation, same}
 use Rattle.infon.proofs.Rows.{and-true, true-and, alike-refl, alike-eq}

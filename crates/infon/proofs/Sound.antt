@@ -1,27 +1,27 @@
 -- Soundness: every record of a row of good records is for a derivable formula.
 -- Assumes nothing.
-use Prim.Native.Nat.{ℕ, suc, _+_, _≤_, _<_}
+use Prim.Native.Nat.{ℕ, _<_}
 use mathlib.Core.Path.{_≡_, refl, sym, _∙_, ap, subst}
-use mathlib.Core.Logic.{_⊎_, inl, inr, ⊎-elim}
-use mathlib.Core.Bool.{Bool, true, false, _&&_, not, false≢true}
-use mathlib.Core.List.{List, [], _∷_, _++_, append-nil, append-assoc, reverse, List·Memᴰ, List·Memᴰ·head, List·Memᴰ·tail, List·Memᴰ·not-nil, List·Memᴰ·cases-cons, List·Memᴰ·append-cases, List·Memᴰ·eq-of-singleton, Memᴰ·append-left, Memᴰ·append-right}
+use mathlib.Core.Logic.{⊎-elim}
+use mathlib.Core.Bool.{true, false, _&&_, false≢true}
+use mathlib.Core.List.{List, [], _∷_, _++_, append-nil, append-assoc, reverse, List·Memᴰ, List·Memᴰ·not-nil, List·Memᴰ·append-cases, List·Memᴰ·eq-of-singleton}
 use lib.ListN.{length}
-use lib.Dec.{ltb, eqb}
-use borrow.Author.Tests.{ltb-true, eqb-true, eq-eqb, not-true}
+use lib.Dec.{eqb}
+use borrow.Author.Tests.{eq-eqb}
 use Rattle.infon.specs.declared.Way.{Way}
 use Rattle.infon.specs.declared.Way.the-variants.{Hypothesis, Given, Weaken, Left, Right, Both, Apply, Attach}
 use Rattle.infon.specs.declared.Record.{Record}
 use Rattle.infon.specs.Formula.{Formula, True, and, implies, isNamed, same}
-use Rattle.infon.specs.Listing.{Prefix, wrap, isListed}
-use Rattle.infon.specs.Calculus.{under, Weaker, Derives, hypothesis, given, weaken, left, right, both, apply, attach}
+use Rattle.infon.specs.Listing.{Prefix, wrap}
+use Rattle.infon.specs.Calculus.{under, Derives, hypothesis, given, weaken, left, right, both, apply, attach}
 use Rattle.infon.specs.Rules.{Shape, truth, primitive, conjunction, implication, shapeOf, weakenings, isTruth, isLeft, isRight, areBoth, isConclusion, isCondition, numbered, gives}
 use Rattle.infon.specs.Journal.{isRecorded, premisesIn, isGood}
-use Rattle.infon.proofs.Rows.{and-true, someOf-witness, witness-someOf}
+use Rattle.infon.proofs.Rows.{and-true, witness-someOf}
 use Rattle.infon.proofs.Same.{same-eq}
 use Rattle.infon.proofs.Prefixes.{listed-mem, wrap-under-reverse, weaker-reverse, shape-truth, shape-conjunction, shape-implication, weakenings-weaker}
 use Rattle.infon.proofs.Listed.{numbered-mem}
 use Rattle.infon.proofs.Least.{PremisesBelow}
-use Rattle.infon.proofs.Grown.{GoodRow, stop, more, good-parts}
+use Rattle.infon.proofs.Grown.{GoodRow, stop, more, good-parts, recorded-by}
 
 -- what the tests of a rule find, where they pass
 truth-found : (s : Shape) → isTruth s ≡ true → s ≡ truth
@@ -70,13 +70,7 @@ applied-found x y (implication l r) h =
     let parts = and-true (same x l) (same y r) h in
     λ i. implication (sym (same-eq x l (parts .0)) i) (sym (same-eq y r (parts .1)) i)
 
--- the number is that of one of the records
-pub recorded-by : (n : ℕ) (done : List Record) → isRecorded n done ≡ true → (r : Record) × (List·Memᴰ r done × (n ≡ r .formula))
-unfolding isRecorded
-recorded-by n done h =
-    let found = someOf-witness (λ (r : Record). eqb n (r .formula)) done h in
-    (found .0, (found .1 .0, eqb-true n (found .0 .formula) (found .1 .1)))
-
+-- a record's number is recorded
 pub by-recorded : (r : Record) (done : List Record) → List·Memᴰ r done → isRecorded (r .formula) done ≡ true
 unfolding isRecorded
 by-recorded r done m = witness-someOf (λ (s : Record). eqb (r .formula) (s .formula)) m (eq-eqb (r .formula) (r .formula) refl)

@@ -132,19 +132,3 @@ joined-tokens (b ∷ s) = by-byte (joined-tokens s) (decided (eqb b space))
     by-byte : joined (tokens s) ≡ s → (eqb b space ≡ true) ⊎ (eqb b space ≡ false) → joined (tokens (b ∷ s)) ≡ b ∷ s
     by-byte rest (inl h) = rw (eqb-true b space h, tokens-space s, joined-gap (tokens s) (tokens-nonempty s), rest)
     by-byte rest (inr h) = rw (tokens-byte b s h, joined-onto, rest)
-
-onto-lacks : (a b : ℕ) (words : List (List ℕ)) → eqb b a ≡ false → every (lacks a) (onto b words) ≡ every (lacks a) words
-unfolding onto lacks every
-onto-lacks a b [] h = rw h
-onto-lacks a b (word ∷ rest) h = rw h
-
--- no token has a space in it
-pub tokens-lack : (s : List ℕ) → every (lacks space) (tokens s) ≡ true
-unfolding lacks every
-tokens-lack [] = ap (every (lacks space)) (tokens-last [] refl)
-tokens-lack (b ∷ s) = by-byte (tokens-lack s) (decided (eqb b space))
-  where
-    by-byte : every (lacks space) (tokens s) ≡ true → (eqb b space ≡ true) ⊎ (eqb b space ≡ false)
-        → every (lacks space) (tokens (b ∷ s)) ≡ true
-    by-byte rest (inl h) = rw (eqb-true b space h, tokens-space s) rest
-    by-byte rest (inr h) = rw (tokens-byte b s h, onto-lacks space b (tokens s) h) rest

@@ -1,7 +1,7 @@
 -- Bytes and rows: what the other files take for granted.
 use Prim.Native.Nat.{ℕ}
 use Prim.Native.String.{String, [] as none-left, _∷_ as _then_}
-use Prim.Native.Char.{Char, code}
+use Prim.Native.Char.{code}
 use mathlib.Core.Bool.{Bool, true, false, cond, _&&_, _||_}
 use mathlib.Core.Option.{Option, none, some}
 use mathlib.Core.List.{List, [], _∷_}

@@ -14,7 +14,7 @@ use borrow.Author.Tests.{ltb-true, ltb-false}
 use Rattle.infon.specs.Bytes.{alike}
 use Rattle.infon.specs.Formula.{put, Quotation, Formula, spelling, same, isNamed}
 use Rattle.infon.specs.Listing.{Prefix}
-use Rattle.infon.proofs.Rows.{and-true, true-and, decided, alike-refl, alike-eq}
+use Rattle.infon.proofs.Rows.{and-true, true-and, decided, alike-refl, alike-eq, not-true-false}
 use Rattle.infon.proofs.Same.{same-refl, same-eq}
 use Rattle.infon.proofs.Readable.{spelled-alike}
 use Rattle.table.specs.Table.{allPut}
@@ -70,14 +70,10 @@ module _ (n o : Node) where
   eq-akin e f =
       true-and (subst (λ (x : Formula). same (n .what) x ≡ true) e (same-refl (n .what))) (eq-principals (n .pre) (o .pre) f)
 
-  unless : (b : Bool) → (b ≡ true → ⊥) → b ≡ false
-  unless true h = absurd (h refl)
-  unless false h = refl
-
   unlike-depths : (length (n .pre) ≡ length (o .pre) → ⊥) → akinNodes n o ≡ false
   unfolding akinNodes
   unlike-depths apart =
-      unless (akinNodes n o)
+      not-true-false (akinNodes n o)
       (λ h. apart (principals-length (n .pre) (o .pre) (and-true (same (n .what) (o .what)) (samePrincipals (n .pre) (o .pre)) h .1)))
 
   akin-spelled : isNamed (n .what) ≡ true → isNamed (o .what) ≡ true

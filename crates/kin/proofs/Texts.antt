@@ -6,12 +6,10 @@ use mathlib.Core.Path.{_≡_, refl, sym, _∙_, ap, ap₂, subst}
 use mathlib.Core.Bool.{true, _&&_}
 use mathlib.Core.List.{List, [], _∷_, _++_, append-assoc}
 use lib.ListN.{length, getD, take, drop, length-append}
-use lib.Dec.{leb}
-use borrow.Author.Tests.{leb-true}
-use Rattle.infon.specs.Bytes.{bytes, space, alike, every}
-use Rattle.infon.specs.Formula.{Quotation, Formula, True, name, and, implies, quoted, letterOf, spelling, nodes, isNameByte, isName, isNamed, words, joined}
+use Rattle.infon.specs.Bytes.{bytes, space, alike}
+use Rattle.infon.specs.Formula.{Quotation, Formula, True, name, and, implies, quoted, letterOf, spelling, nodes, isName, isNamed, words, joined}
 use Rattle.infon.proofs.Rows.{and-true}
-use Rattle.infon.proofs.Readable.{letter-length}
+use Rattle.infon.proofs.Readable.{letter-length, name-positive}
 use Rattle.spelling.proofs.Tokenised.{name-token}
 use Rattle.spelling.specs.Token.{isBreak}
 use Rattle.nodes.specs.Nodes.{Node, part, inner, nodeAt, countNodes, ownBytes, nodesOf}
@@ -100,12 +98,6 @@ module _ (row : List Node) where
       let within = size-within (quoted q x) i h e in
       later-ends (quoted q x) x i (suc i) (3 + length (q .principal)) (omega arith) (ap (λ (n : Node). n .place) inside) (quoted-length q x)
       (last-ends x (suc i) (omega (arith, nodes-positive x)) (ap (λ (n : Node). n .what) inside))
-
-name-positive : (a : List ℕ) → isName a ≡ true → 0 < length a
-unfolding isName
-name-positive a h =
-    leb-true 1 (length a)
-    (and-true (leb 1 (length a)) (leb (length a) 16) (and-true (leb 1 (length a) && leb (length a) 16) (every isNameByte a) h .0) .0)
 
 spelling-positive : (x : Formula) → isNamed x ≡ true → 0 < length (spelling x)
 unfolding isNamed spelling words joined bytes

@@ -16,12 +16,13 @@ use Rattle.infon.specs.Rules.{shapeUnder, shapeOf, prefixUnder, coreOf, numbere
 use Rattle.infon.proofs.Rows.{decided}
 use Rattle.infon.proofs.Prefixes.{shape-wrap}
 use Rattle.nodes.specs.Nodes.{Node, nodeAt, countNodes, kindOf, nodesOf}
+use Rattle.nodes.proofs.Order.{quoted-high}
 use Rattle.table.specs.Table.{numberIn, noNumber, putMask, allPut, bottomOf, shapeKind, leftIn, rightIn}
 use Rattle.prefix.specs.Weaker.{weakerCount, choose, inwards, isBase, formAt}
 use Rattle.prefix.specs.Held.{NodesHeld}
 use Rattle.prefix.proofs.Chosen.{choose-bottom, choose-last, choose-length, weaker-count-positive, mask-bound}
 use Rattle.prefix.proofs.Shown.{kind-cell, count-few, pre-few, node-weaker}
-use Rattle.prefix.proofs.Inside.{kind-quoted, quoted-high, base-kind, quoted-kind, inside-below, inside-weaker, inside-form, Parts, left-below, right-below, left-form, right-form, left-weaker, right-weaker}
+use Rattle.prefix.proofs.Inside.{kind-quoted, base-kind, quoted-kind, inside-below, inside-weaker, inside-form, Parts, left-below, right-below, left-form, right-form, left-weaker, right-weaker}
 use Rattle.columns.specs.Columns.{stride, inwardKind, numberFrom, numberAt, kindColumn, putColumn, leftColumn, rightColumn, bottomColumn, IsForm, IsOwner}
 use Rattle.columns.proofs.Steps.{kind-inward, form-parts, right-number}
 use Rattle.listing.specs.Forms.{keyAt, Form, Owned, Placed}

@@ -15,7 +15,7 @@ use Rattle.infon.specs.Policy.{Entry, formulaIn, Verdict, passed, refused, when
 use Rattle.infon.proofs.Rows.{decided}
 use Rattle.infon.proofs.Cuts.{andThen-passed, when-passed}
 use Rattle.nodes.specs.Nodes.{Node, part, inner, kidsOf, kids, after, nowhere, nodeAt, root, roots, countNodes}
-use Rattle.nodes.proofs.Order.{after-add, after-all, count-append, node-first, node-step, after-none, kids-count}
+use Rattle.nodes.proofs.Order.{after-add, after-all, count-append, node-first, node-step, kids-count}
 use Rattle.nodes.proofs.Every.{Each, each-append}
 
 -- Lines. While the nodes of a formula are gone through, all come from its line, whatever stands behind.
@@ -158,15 +158,6 @@ module _ (row : List Node) where
       ap code4Of (node-first row i h) ∙ code4-step i (nodeAt row i) (drop 1 (after 0 i row))
       ∙ ap (λ r. andThen (when (ltb mostDepth (length (nodeAt row i .pre))) 4 (nodeAt row i .line)) (code4Of r)) (sym (node-step row i h))
 
-  -- as long as no node was too deep, the code is that of the nodes still to be gone through
-  pub code4-so-far : (i : ℕ) → i ≤ countNodes row → ((j : ℕ) → j < i → length (nodeAt row j .pre) ≤ mostDepth) → code4Of row ≡ code4Of (after 0 i row)
-  unfolding after when andThen
-  code4-so-far zero h shallow = refl
-  code4-so-far (suc i) h shallow =
-      code4-so-far i (omega arith) (λ j k. shallow j (omega arith)) ∙ code4-next i h
-      ∙ ap (λ t. andThen (when t 4 (nodeAt row i .line)) (code4Of (after 0 (suc i) row)))
-      (le-ltb mostDepth (length (nodeAt row i .pre)) (shallow i (omega arith)))
-
   code4-parts : (i : ℕ) → i < countNodes row → code4Of (after 0 i row) ≡ passed
       → (when (ltb mostDepth (length (nodeAt row i .pre))) 4 (nodeAt row i .line) ≡ passed) × (code4Of (after 0 (suc i) row) ≡ passed)
   code4-parts i h e =
@@ -182,22 +173,3 @@ module _ (row : List Node) where
   shallow-nodes e i h =
       ltb-false mostDepth (length (nodeAt row i .pre))
       (when-passed (ltb mostDepth (length (nodeAt row i .pre))) 4 (nodeAt row i .line) (code4-parts i h (code4-rest e i (omega arith)) .0))
-
--- code 4 is given at the first node that is too deep, and at none otherwise
-module _ (entries : List Entry) where
-  pub code4-first : (i : ℕ) → i < countNodes (roots entries) → mostDepth < length (nodeAt (roots entries) i .pre)
-      → ((j : ℕ) → j < i → length (nodeAt (roots entries) j .pre) ≤ mostDepth) → code4 entries ≡ refused 4 (nodeAt (roots entries) i .line)
-  unfolding when andThen
-  code4-first i h deep shallow =
-      code4-roots entries ∙ code4-so-far (roots entries) i (omega arith) shallow ∙ code4-next (roots entries) i h
-      ∙ rw (lt-ltb mostDepth (length (nodeAt (roots entries) i .pre)) deep)
-
-  pub code4-none : ((i : ℕ) → i < countNodes (roots entries) → length (nodeAt (roots entries) i .pre) ≤ mostDepth) → code4 entries ≡ passed
-  unfolding code4Of
-  code4-none shallow =
-      let all = countNodes (roots entries) in
-      code4-roots entries ∙ code4-so-far (roots entries) all (omega arith) shallow
-      ∙ ap code4Of (after-none 0 all (roots entries) (omega arith))
-
-  pub code4-passed : code4 entries ≡ passed → (i : ℕ) → i < countNodes (roots entries) → length (nodeAt (roots entries) i .pre) ≤ mostDepth
-  code4-passed h = shallow-nodes (roots entries) (sym (code4-roots entries) ∙ h)

@@ -6,8 +6,8 @@ use native.Mathlib.Omega.{arith}
 use mathlib.Core.Path.{_≡_, refl, sym, _∙_, ap}
 use mathlib.Core.List.{List, [], _∷_, _++_}
 use lib.ListN.{length, getD, drop}
-use Rattle.infon.specs.Formula.{Quotation, Formula, True, name, and, implies, quoted, spelling, nodes}
-use Rattle.nodes.specs.Nodes.{Node, part, inner, kidsOf, kids, after, nowhere, nodeAt, countNodes}
+use Rattle.infon.specs.Formula.{Told, said, put, Quotation, Formula, True, name, and, implies, quoted, spelling, nodes}
+use Rattle.nodes.specs.Nodes.{Node, part, inner, kidsOf, kids, after, nowhere, nodeAt, countNodes, kindOf}
 
 -- Going on from where one has got to.
 pub after-nil : (i k : ℕ) → after i k [] ≡ []
@@ -153,3 +153,12 @@ module _ (row : List Node) (i : ℕ) (below : i < countNodes row) where
   pub quoted-inner : (q : Quotation) (x : Formula) → nodeAt row i .what ≡ quoted q x → nodeAt row (suc i) ≡ inner i (nodeAt row i) q x
   unfolding kidsOf nodeAt
   quoted-inner q x e = ap (λ r. getD r 0 nowhere) (kids-told (quoted q x) e)
+
+-- A quotation's kind is 4 or 5.
+told-kind : (told : Told) (principal : List ℕ) (x : Formula) → 4 ≤ kindOf (quoted (record { told = told; principal = principal }) x)
+unfolding kindOf
+told-kind said principal x = omega arith
+told-kind put principal x = omega arith
+
+pub quoted-high : (q : Quotation) (x : Formula) → 4 ≤ kindOf (quoted q x)
+quoted-high q x = told-kind (q .told) (q .principal) x

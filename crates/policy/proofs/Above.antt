@@ -11,12 +11,12 @@ use borrow.Author.Tests.{lt-ltb, le-ltb}
 use Rattle.infon.specs.Formula.{Quotation, Formula, True, name, and, implies, quoted, spelling, nodes}
 use Rattle.infon.specs.Policy.{entriesOf}
 use Rattle.nodes.specs.Nodes.{Node, none-above, part, inner, kidsOf, kids, after, nodeAt, roots, countNodes, kindOf, nodesOf, nodeCell}
-use Rattle.nodes.proofs.Order.{nodes-positive, count-after, node-first, node-step, node-within, and-left, implies-left}
+use Rattle.nodes.proofs.Order.{nodes-positive, count-after, node-first, node-step, node-within, and-left, implies-left, quoted-high}
 use Rattle.nodes.proofs.Every.{Each, Outermost, roots-outermost, node-shallow}
 use Rattle.policy.specs.Filling
 use Rattle.policy.specs.Filling.{tableSize, cellAt, abovePut, endedCell, Held, Holding, Passes, handedDown, EndReads}
 use Rattle.policy.proofs.Cells.{put-same, put-size, put-row, put-column}
-use Rattle.policy.proofs.Ends.{quoted-kind, node-reads}
+use Rattle.policy.proofs.Ends.{node-reads}
 
 -- The two stores.
 module _ (t : List ℕ) (long : length t ≡ tableSize) (i above depth : ℕ) (here : i < 1024) where
@@ -244,7 +244,7 @@ module _ (row : List Node) (i n : ℕ) (before t : List ℕ) (s : Handed row i n
   quoted-downed q x e =
       let within = size-told (quoted q x) e in
       let some-nodes = nodes-positive x in
-      let big = quoted-kind q x in
+      let big = quoted-high q x in
       let same = down-quoted t i (omega (arith, here-kind, ap kindOf e)) (omega (arith, here-kind, ap kindOf e)) in (
         subst (λ u. Down t u i n) same (down-put t i n (i + 1) i (cellAt t 6 i + 1) long (omega arith) (omega arith) few),
         subst (λ u. Waiting u (suc i) (inner i (nodeAt row i) q x ∷ drop 1 (after 0 i row))) same

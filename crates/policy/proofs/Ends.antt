@@ -10,9 +10,9 @@ use mathlib.Core.List.{List}
 use lib.ListN.{length}
 use lib.Dec.{ltb}
 use borrow.Author.Tests.{lt-ltb, le-ltb}
-use Rattle.infon.specs.Formula.{Told, said, put, Quotation, Formula, True, name, and, implies, quoted, nodes}
+use Rattle.infon.specs.Formula.{Formula, True, name, and, implies, quoted, nodes}
 use Rattle.nodes.specs.Nodes.{Node, part, inner, nodeAt, countNodes, kindOf, nodesOf}
-use Rattle.nodes.proofs.Order.{nodes-positive, node-within, and-left, and-right, implies-left, implies-right, quoted-inner}
+use Rattle.nodes.proofs.Order.{nodes-positive, node-within, and-left, and-right, implies-left, implies-right, quoted-inner, quoted-high}
 use Rattle.policy.specs.Filling
 use Rattle.policy.specs.Filling.{tableSize, cellAt, firstCell, endedCell, Held, Holding, Passes, endFrom, EndReads}
 use Rattle.policy.proofs.Cells.{put-same, put-size, put-row, put-column}
@@ -30,14 +30,6 @@ module _ (t : List ℕ) (i : ℕ) where
   pub end-parts : 2 ≤ cellAt t 0 i → cellAt t 0 i ≤ 3 → cellAt t 3 (cellAt t 3 (i + 1)) ≡ endFrom t i
   unfolding endFrom
   end-parts h k = rw (le-ltb (cellAt t 0 i) 2 h, le-ltb 3 (cellAt t 0 i) k)
-
-told-kind : (told : Told) (principal : List ℕ) (x : Formula) → 4 ≤ kindOf (quoted (record { told = told; principal = principal }) x)
-unfolding kindOf
-told-kind said principal x = omega arith
-told-kind put principal x = omega arith
-
-pub quoted-kind : (q : Quotation) (x : Formula) → 4 ≤ kindOf (quoted q x)
-quoted-kind q x = told-kind (q .told) (q .principal) x
 
 -- A node of a row whose kind is in the table, with the ends of all nodes behind it.
 module _ (row : List Node) (t : List ℕ) (i : ℕ) (here : i < countNodes row) (few : countNodes row ≤ 1024)
@@ -101,7 +93,7 @@ module _ (row : List Node) (t : List ℕ) (i : ℕ) (here : i < countNodes row) 
       )
   known (quoted q x) e =
       let within = size-told (quoted q x) e in
-      let big = quoted-kind q x in
+      let big = quoted-high q x in
       let is = kind ∙ ap kindOf e in
       let inside : suc i < countNodes row = omega (arith, nodes-positive x) in (
         sym (end-quoted t i (omega arith) (omega arith)) ∙ first-end x _ (quoted-inner row i here q x e) refl inside ∙ omega arith,

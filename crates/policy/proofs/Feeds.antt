@@ -2,7 +2,6 @@
 -- space and its formula make it well formed.
 -- Assumes nothing.
 use Prim.Native.Nat.{ℕ, suc, _+_, _-_, _≤_, _<_}
-use native.Mathlib.Numerals.{add-one}
 use native.Mathlib.Omega.{arith}
 use mathlib.Core.Path.{_≡_, refl, sym, _∙_, ap, subst}
 use mathlib.Core.Logic.{_⊎_, inl, inr}
@@ -19,49 +18,28 @@ use Rattle.infon.specs.Policy.{cut, placed, linesOf, Sentence, hypothesis, quer
 use Rattle.infon.proofs.Rows.{and-true, decided}
 use Rattle.infon.proofs.Words.{lacks, cons-lacks, every-append}
 use Rattle.infon.proofs.Lines.{cut-lineFeed, cut-byte, beforeFeed-ended, opening, line-read}
-use Rattle.policy.specs.Lining.{untilFeed, isOpening}
+use Rattle.spelling.specs.Token.{untilFirst}
+use Rattle.spelling.proofs.Breaks.{until-stop, until-turn, until-fits, until-passes}
+use Rattle.policy.specs.Lining.{isFeed, untilFeed, isOpening}
 
 -- Counting to the line feed.
 module _ (file : List ℕ) (i : ℕ) where
-  feed-cons : i < length file → untilFeed (drop i file) ≡ cond (eqb (getD file i 0) lineFeed) 0 (suc (untilFeed (drop (suc i) file)))
-  unfolding untilFeed
-  feed-cons h = rw (drop-cons file i 0 h)
-
   pub feed-stop : i < length file → getD file i 0 ≡ 10 → untilFeed (drop i file) ≡ 0
   unfolding lineFeed
-  feed-stop h e = feed-cons h ∙ rw (eq-eqb (getD file i 0) 10 e)
+  feed-stop h e = until-stop isFeed file i h (eq-eqb (getD file i 0) 10 e)
 
   pub feed-turn : i < length file → (getD file i 0 ≡ 10 → ⊥) → untilFeed (drop i file) ≡ 1 + untilFeed (drop (i + 1) file)
   unfolding lineFeed
-  feed-turn h e = rw (add-one i) (feed-cons h ∙ rw (ne-eqb (getD file i 0) 10 e) (omega arith))
-
-  pub feed-over : length file ≤ i → untilFeed (drop i file) ≡ 0
-  unfolding untilFeed
-  feed-over h = rw (drop-of-length-le file h)
-
-pub feed-least : (s : List ℕ) → untilFeed s ≤ length s
-unfolding untilFeed
-feed-least [] = omega arith
-feed-least (b ∷ s) =
-    let rest = feed-least s in
-    elim (eqb b lineFeed) as (λ t. cond t 0 (suc (untilFeed s)) ≤ suc (length s)) [ true ↦ omega arith | false ↦ omega arith ]
-
-pub feed-fits : (file : List ℕ) (start : ℕ) → start ≤ length file → start + untilFeed (drop start file) ≤ length file
-feed-fits file start h = omega (arith, feed-least (drop start file), length-drop start file)
+  feed-turn h e = until-turn isFeed file i h (ne-eqb (getD file i 0) 10 e)
 
 -- the byte there is a line feed, or there is none
 feed-found : (s : List ℕ) → untilFeed s < length s → getD s (untilFeed s) 0 ≡ lineFeed
-unfolding untilFeed
-feed-found [] h = absurd (omega arith)
-feed-found (b ∷ s) h = by-byte (feed-found s) (decided (eqb b lineFeed)) h
-  where
-    by-byte : (untilFeed s < length s → getD s (untilFeed s) 0 ≡ lineFeed) → (eqb b lineFeed ≡ true) ⊎ (eqb b lineFeed ≡ false)
-        → cond (eqb b lineFeed) 0 (suc (untilFeed s)) < suc (length s) → getD (b ∷ s) (cond (eqb b lineFeed) 0 (suc (untilFeed s))) 0 ≡ lineFeed
-    by-byte later (inl e) k = rw e (eqb-true b lineFeed e)
-    by-byte later (inr e) k = let shorter : suc (untilFeed s) < suc (length s) = rw e at k in rw e (later (omega arith))
+feed-found s h =
+    eqb-true (getD s (untilFeed s) 0) lineFeed
+    (until-passes isFeed s (getD s (untilFeed s) 0) (drop (suc (untilFeed s)) s) (drop-cons s (untilFeed s) 0 h))
 
 feed-none : (s : List ℕ) → length s ≤ untilFeed s → lacks lineFeed s ≡ true
-unfolding untilFeed lacks every
+unfolding untilFirst lacks every
 feed-none [] h = refl
 feed-none (b ∷ s) h = by-byte (feed-none s) (decided (eqb b lineFeed)) h
   where
@@ -76,7 +54,7 @@ cut-nil = refl
 
 -- the first line of a text
 pub cut-first : (s : List ℕ) → 0 < length s → cut s ≡ take (suc (untilFeed s)) s ∷ cut (drop (suc (untilFeed s)) s)
-unfolding untilFeed onto
+unfolding untilFirst onto
 cut-first [] h = absurd (omega arith)
 cut-first (b ∷ []) h = by-byte (decided (eqb b lineFeed))
   where
@@ -152,7 +130,7 @@ module _ (file : List ℕ) (start end : ℕ) (inside : start < length file) (at-
   pub line-ended : isSome (sentenceOf lineAt) ≡ true → end < length file
   line-ended h =
       let apart : end ≡ length file → ⊥ = λ e. false≢true (line-unended e ∙ h) in
-      omega (arith, feed-fits file start (omega arith))
+      omega (arith, until-fits isFeed file start (omega arith))
 
   pub line-short : end - start < 2 → false ≡ isSome (sentenceOf lineAt)
   line-short h =

@@ -17,7 +17,7 @@ use borrow.Author.Tests.{leb-true, lt-ltb, le-ltb, eq-eqb, ne-eqb}
 use Rattle.infon.specs.Bytes.{bytes, space, lineFeed, alike, every}
 use Rattle.infon.specs.Formula.{Told, said, put, Formula, True, name, and, implies, quoted, isNameByte, isName, isNamed, letterOf, words, joined, spelling}
 use Rattle.infon.specs.Policy.{entriesOf, passed, refused, when, code2, mostNodes, code3}
-use Rattle.infon.proofs.Rows.{and-true, true-and}
+use Rattle.infon.proofs.Rows.{and-true, true-and, or-false-both}
 use Rattle.infon.proofs.Words.{lacks}
 use Rattle.infon.proofs.Readable.{unlike-name}
 use Rattle.nodes.specs.Nodes.{Node, after, nodeAt, countNodes, ownBytes, nodesOf}
@@ -30,7 +30,7 @@ use Rattle.spelling.specs.declared.Parsed.the-variants.{True as aTrue, Name as 
 use Rattle.spelling.specs.Token.{isBreak, wordAt}
 use Rattle.spelling.specs.Parsing.{quotationAt, parsedAt}
 use Rattle.spelling.proofs.Parses.{with-principal, parses-true, parses-and, parses-implies, parses-said, parses-put, parses-name}
-use Rattle.spelling.proofs.Tokenised.{or-false-both, token-cut, name-token}
+use Rattle.spelling.proofs.Tokenised.{token-cut, name-token}
 use Rattle.policy.specs.declared.walk.Spot.{Spot}
 use Rattle.policy.specs.Walking.{behindOwn, nextSpot}
 

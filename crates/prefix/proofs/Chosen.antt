@@ -11,7 +11,7 @@ use lib.Pow.{pow-mono}
 use Rattle.infon.specs.Formula.{Told, said, put, Quotation, Formula}
 use Rattle.infon.specs.Listing.{Prefix, wrap, weakerTold, inside, insideEach, weakerPrefixes, weakened}
 use Rattle.table.specs.Table.{putBit, putMask, allPut}
-use Rattle.table.proofs.Weakened.{mask-below}
+use Rattle.table.proofs.Weakened.{mask-below, allPut-length}
 use Rattle.prefix.specs.Places.{branches, laterBits}
 use Rattle.prefix.specs.Weaker.{isSaid, loweredTold, weakerCount, choose, inwards}
 
@@ -168,10 +168,6 @@ heads-apart said put m n k hm hn e = absurd (omega arith)
 heads-apart put said m n k hm hn e = absurd (omega arith)
 heads-apart put put m n k hm hn e = (refl, omega arith)
 
-allPut-count : (w : Prefix) → length (allPut w) ≡ length w
-unfolding allPut
-allPut-count w = length-map w (λ (q : Quotation). asPut (q .principal))
-
 pub same-prefix : (v w : Prefix) → allPut v ≡ allPut w → putMask v ≡ putMask w → v ≡ w
 unfolding allPut putMask
 same-prefix [] [] e h = refl
@@ -180,7 +176,7 @@ same-prefix (q ∷ v) [] e h = absurd (let z : _≡_ {A = ℕ} 0 1 = cc in omega
 same-prefix (q ∷ v) (r ∷ w) e h =
     let first : asPut (q .principal) ≡ asPut (r .principal) = cc in
     let rest : allPut v ≡ allPut w = cc in
-    let alike : length v ≡ length w = sym (allPut-count v) ∙ (ap length rest ∙ allPut-count w) in
+    let alike : length v ≡ length w = sym (allPut-length v) ∙ (ap length rest ∙ allPut-length w) in
     let both = heads-apart (q .told) (r .told) (putMask v) (putMask w) (length w)
     (subst (λ (k : ℕ). putMask v < 2 ^ k) alike (mask-below v)) (mask-below w)
     (subst (λ (k : ℕ). putMask v + putBit (q .told) * 2 ^ k ≡ putMask w + putBit (r .told) * 2 ^ length w) alike h) in

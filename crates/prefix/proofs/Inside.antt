@@ -7,10 +7,10 @@ use mathlib.Core.Logic.{_⊎_, inl, inr}
 use mathlib.Core.Bool.{true, false}
 use mathlib.Core.List.{List, _∷_}
 use lib.ListN.{length}
-use Rattle.infon.specs.Formula.{Told, said, put, Quotation, Formula, True, name, and, implies, quoted, spelling, nodes}
+use Rattle.infon.specs.Formula.{Quotation, Formula, True, name, and, implies, quoted, spelling, nodes}
 use Rattle.infon.specs.Listing.{Prefix, wrap}
 use Rattle.nodes.specs.Nodes.{Node, part, inner, nodeAt, countNodes, kindOf}
-use Rattle.nodes.proofs.Order.{node-within, nodes-positive, and-left, and-right, implies-left, implies-right, quoted-inner}
+use Rattle.nodes.proofs.Order.{node-within, nodes-positive, and-left, and-right, implies-left, implies-right, quoted-inner, quoted-high}
 use Rattle.prefix.specs.Weaker.{weakerCount, choose, inwards, isBase, formAt}
 use Rattle.prefix.proofs.Chosen.{wrap-inwards, inwards-below}
 
@@ -25,14 +25,6 @@ kind-quoted (name a) h = absurd (omega arith)
 kind-quoted (and x y) h = absurd (omega arith)
 kind-quoted (implies x y) h = absurd (omega arith)
 kind-quoted (quoted q x) h = (q, (x, refl))
-
-told-kind : (told : Told) (p : List ℕ) (x : Formula) → 4 ≤ kindOf (quoted (record { told = told; principal = p }) x)
-unfolding kindOf
-told-kind said p x = omega arith
-told-kind put p x = omega arith
-
-pub quoted-high : (q : Quotation) (x : Formula) → 4 ≤ kindOf (quoted q x)
-quoted-high q x = told-kind (q .told) (q .principal) x
 
 pub base-kind : (w : Formula) → kindOf w < 4 → isBase w ≡ true
 unfolding kindOf isBase

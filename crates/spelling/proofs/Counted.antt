@@ -8,26 +8,26 @@ use native.Mathlib.Decide.{decLt}
 use native.Mathlib.Omega.{arith}
 use mathlib.Core.Path.{_≡_, refl, sym, _∙_, ap, subst}
 use mathlib.Core.Logic.{⊎-elim, _≢_}
-use mathlib.Core.Bool.{Bool, true, false, cond, _&&_}
+use mathlib.Core.Bool.{Bool, true, false, cond}
 use mathlib.Core.Option.{Option, none, some}
 use mathlib.Core.List.{List, [], _∷_, _++_, append-nil, append-assoc, cons≢nil, flatMap}
 use lib.ListN.{length, getD, drop, drop-of-length-le, List·getD-eq-default}
 use lib.Seq.{drop-cons, getD-drop}
-use lib.Dec.{leb, eqb}
-use borrow.Author.Tests.{leb-true, eqb-true, eqb-false, eq-eqb, ne-eqb}
+use lib.Dec.{eqb}
+use borrow.Author.Tests.{eqb-true, eqb-false, eq-eqb, ne-eqb}
 use Rattle.infon.specs.Bytes.{bytes, space, alike, every}
-use Rattle.infon.specs.Formula.{Told, said, put, Formula, True, name, and, implies, quoted, isNameByte, isName, letterOf, joined, tokens, joinTwo, quote, takeWord, takeNext, readWords, onlyOne, formulaOf}
+use Rattle.infon.specs.Formula.{Told, said, put, Formula, True, name, and, implies, quoted, isName, letterOf, joined, tokens, joinTwo, quote, takeWord, takeNext, readWords, onlyOne, formulaOf}
 use Rattle.infon.specs.Policy.{isSome}
 use Rattle.infon.proofs.Rows.{and-true, true-and, decided, alike-eq}
 use Rattle.infon.proofs.Words.{lacks, tokens-word, tokens-last, tokens-joined, tokens-nonempty}
-use Rattle.infon.proofs.Readable.{letter-length, take-name, take-letter, words-read}
+use Rattle.infon.proofs.Readable.{letter-length, name-positive, take-name, take-letter, words-read}
 use Rattle.spelling.specs.declared.Parsed.{Parsed}
 use Rattle.spelling.specs.declared.Parsed.the-variants.{True as aTrue, Name as aName, And as anAnd, Implies as anImplies, Quoted as aQuoted, Bad}
 use Rattle.spelling.specs.declared.Cursor.{Cursor}
 use Rattle.spelling.specs.declared.Onward.the-variants.{Behind, Stuck}
 use Rattle.spelling.specs.Token.{isBreak, wordAt}
 use Rattle.spelling.specs.Parsing.{quotationAt, parsedAt, goneOn}
-use Rattle.spelling.proofs.Breaks.{word-fits, wordAt-length}
+use Rattle.spelling.proofs.Breaks.{until-fits, wordAt-length}
 use Rattle.spelling.proofs.Tokenised.{token-lacks, token-stands, token-stops, break-cases, feed-no-formula, first-token}
 
 -- so many formulas were read
@@ -245,10 +245,6 @@ module _ (text : List ℕ) (at needed end left : ℕ) (t : Taken text at needed 
       ⊎-elim (λ e. absurd (apart e)) (λ e. feed-no-formula text end (drop (suc end) text) (behind ∙ ap (λ b. b ∷ drop (suc end) text) e))
       (break-cases (getD text end 0) (t .stops (getD text end 0) (drop (suc end) text) behind))
 
-name-long : (word : List ℕ) → isName word ≡ true → 0 < length word
-unfolding isName
-name-long word h = leb-true 1 (length word) (and-true (leb 1 (length word)) (leb (length word) 16) (and-true (leb 1 (length word) && leb (length word) 16) (every isNameByte word) h .0) .0)
-
 -- What the parsed node says is taken.
 module _ (text : List ℕ) (at needed : ℕ) (fits : at ≤ length text) (some-needed : 0 < needed) where
   word-taken : (end left : ℕ) → end ≡ at + length (wordAt text at) → 0 < length (wordAt text at) → left ≤ needed + 1
@@ -262,7 +258,7 @@ module _ (text : List ℕ) (at needed : ℕ) (fits : at ≤ length text) (some-n
         stands = rw e (token-stands text at);
         stops = rw e (token-stops text at);
         forward = omega arith;
-        within = omega (arith, word-fits text at fits, wordAt-length text at);
+        within = omega (arith, until-fits isBreak text at fits, wordAt-length text at);
         few = few;
         effect = effect;
       }
@@ -300,7 +296,7 @@ module _ (text : List ℕ) (at needed : ℕ) (fits : at ≤ length text) (some-n
               ∙ sym (append-assoc (letterOf told) (space ∷ principal) (drop (at + 1 + 1 + length principal) text));
           stops = token-stops text (at + 1 + 1);
           forward = omega arith;
-          within = omega (arith, word-fits text (at + 1 + 1) (omega (arith, gap-within)), wordAt-length text (at + 1 + 1));
+          within = omega (arith, until-fits isBreak text (at + 1 + 1) (omega (arith, gap-within)), wordAt-length text (at + 1 + 1));
           few = omega arith;
           effect = quote-effect needed some-needed told principal named;
         }
@@ -318,7 +314,7 @@ module _ (text : List ℕ) (at needed : ℕ) (fits : at ≤ length text) (some-n
       (letter-taken (bytes "T") (needed - 1) refl e (omega arith) (leaf-effect needed some-needed (bytes "T") True (λ waiting. refl)))
   taken-by p d (is-name named) h =
       goes-behind _ d h
-      (word-taken (at + length (wordAt text at)) (needed - 1) refl (name-long (wordAt text at) named) (omega arith)
+      (word-taken (at + length (wordAt text at)) (needed - 1) refl (name-positive (wordAt text at) named) (omega arith)
       (leaf-effect needed some-needed (wordAt text at) (name (wordAt text at)) (λ waiting. take-name (wordAt text at) waiting named)))
   taken-by p d (is-and e) h =
       goes-behind _ d h

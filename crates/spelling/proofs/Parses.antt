@@ -11,9 +11,9 @@ use Rattle.infon.specs.Bytes.{bytes, space, alike}
 use Rattle.infon.specs.Formula.{isName}
 use Rattle.infon.proofs.Rows.{alike-eq}
 use Rattle.spelling.specs.declared.Parsed.the-variants.{True, Name, And, Implies, Quoted, Bad}
-use Rattle.spelling.specs.Token.{wordAt}
+use Rattle.spelling.specs.Token.{isBreak, wordAt}
 use Rattle.spelling.specs.Parsing.{quotationAt, parsedAt}
-use Rattle.spelling.proofs.Breaks.{word-fits, wordAt-length}
+use Rattle.spelling.proofs.Breaks.{until-fits, wordAt-length}
 
 module _ (said : Bool) (text : List ℕ) (gap : ℕ) where
   pub no-space : (getD text gap 0 ≡ 32 → ⊥) → Bad ≡ quotationAt said text gap
@@ -73,4 +73,4 @@ module _ (text : List ℕ) (at : ℕ) where
   -- a letter of the table is all of its token, so that there is a place behind it
   pub one-letter-fits : at ≤ length text → (letter : ℕ) → Lettered letter true → at + 1 ≤ length text
   one-letter-fits h letter e =
-      omega (arith, word-fits text at h, wordAt-length text at, ap length (alike-eq (wordAt text at) (letter ∷ []) e))
+      omega (arith, until-fits isBreak text at h, wordAt-length text at, ap length (alike-eq (wordAt text at) (letter ∷ []) e))

@@ -4,29 +4,25 @@
 use Prim.Native.Nat.{ℕ, suc, _+_}
 use mathlib.Core.Path.{_≡_, refl, sym, _∙_, ap, subst}
 use mathlib.Core.Logic.{_⊎_, inl, inr, ⊎-elim}
-use mathlib.Core.Bool.{Bool, true, false, cond, _||_, not, true≢false, false≢true}
+use mathlib.Core.Bool.{true, false, cond, not, true≢false, false≢true}
 use mathlib.Core.Option.{Option, none, some}
-use mathlib.Core.List.{List, [], _∷_, _++_, append-nil, cons≢nil}
-use lib.ListN.{length, getD, take, drop, take-append-drop}
+use mathlib.Core.List.{List, [], _∷_, _++_, append-nil}
+use lib.ListN.{length, take, drop, take-append-drop}
 use lib.Seq.{drop-drop, take-append-seam}
 use lib.Dec.{eqb}
 use borrow.Author.Tests.{eqb-true}
 use Rattle.infon.specs.Bytes.{bytes, space, lineFeed, every}
 use Rattle.infon.specs.Formula.{Formula, isNameByte, isName, tokens, formulaOf}
 use Rattle.infon.specs.Policy.{isSome}
-use Rattle.infon.proofs.Rows.{and-true, or-true, decided}
+use Rattle.infon.proofs.Rows.{and-true, or-true, or-false-both, decided}
 use Rattle.infon.proofs.Words.{every-append, lacks, lacks-cons, cons-lacks, tokens-word, tokens-last}
 use Rattle.infon.proofs.Readable.{isWordByte, name-lacks, spelling-read, spelling-lacks-lineFeed}
-use Rattle.spelling.specs.Token.{isBreak, wordLength, wordAt}
-use Rattle.spelling.proofs.Breaks.{wordAt-length}
+use Rattle.spelling.specs.Token.{isBreak, untilFirst, wordLength, wordAt}
+use Rattle.spelling.proofs.Breaks.{until-passes, wordAt-length}
 
-pub or-false-both : (a b : Bool) → a || b ≡ false → (a ≡ false) × (b ≡ false)
-or-false-both true b h = absurd (true≢false h)
-or-false-both false b h = (refl, h)
-
--- The bytes before a break, and what stands behind them.
+-- The bytes before a break.
 word-lacks : (s : List ℕ) → lacks space (take (wordLength s) s) ≡ true
-unfolding wordLength isBreak lacks every
+unfolding untilFirst isBreak lacks every
 word-lacks [] = refl
 word-lacks (b ∷ s) = by-byte (word-lacks s) (decided (isBreak b))
   where
@@ -34,16 +30,6 @@ word-lacks (b ∷ s) = by-byte (word-lacks s) (decided (isBreak b))
         → lacks space (take (cond (isBreak b) 0 (suc (wordLength s))) (b ∷ s)) ≡ true
     by-byte rest (inl e) = rw e
     by-byte rest (inr e) = rw e (cons-lacks space b (take (wordLength s) s) (or-false-both (eqb b space) (eqb b lineFeed) e .0) rest)
-
-word-stops : (s : List ℕ) (b : ℕ) (rest : List ℕ) → drop (wordLength s) s ≡ b ∷ rest → isBreak b ≡ true
-unfolding wordLength
-word-stops [] b rest h = absurd (cons≢nil (sym h))
-word-stops (a ∷ s) b rest h = by-byte (word-stops s b rest) (decided (isBreak a)) h
-  where
-    by-byte : (drop (wordLength s) s ≡ b ∷ rest → isBreak b ≡ true) → (isBreak a ≡ true) ⊎ (isBreak a ≡ false)
-        → drop (cond (isBreak a) 0 (suc (wordLength s))) (a ∷ s) ≡ b ∷ rest → isBreak b ≡ true
-    by-byte later (inl e) k = let same : a ∷ s ≡ b ∷ rest = rw e at k in ap isBreak (sym (ap (λ t. getD t 0 0) same)) ∙ e
-    by-byte later (inr e) k = later (rw e at k)
 
 module _ (text : List ℕ) (at : ℕ) where
   pub token-lacks : lacks space (wordAt text at) ≡ true
@@ -58,7 +44,7 @@ module _ (text : List ℕ) (at : ℕ) where
 
   pub token-stops : (b : ℕ) (rest : List ℕ) → drop (at + length (wordAt text at)) text ≡ b ∷ rest → isBreak b ≡ true
   token-stops b rest h =
-      word-stops (drop at text) b rest
+      until-passes isBreak (drop at text) b rest
       (drop-drop (wordLength (drop at text)) at text ∙ ap (λ k. drop (at + k) text) (sym (wordAt-length text at)) ∙ h)
 
 -- A text with a line feed in it is no formula.
@@ -110,7 +96,7 @@ first-token text at = by-rest (drop (at + length (wordAt text at)) text) refl
 -- a word without a break, with a break behind it, is the token that begins there
 word-cut : (word : List ℕ) (b : ℕ) (rest : List ℕ) → lacks space word ≡ true → lacks lineFeed word ≡ true → isBreak b ≡ true
     → wordLength (word ++ (b ∷ rest)) ≡ length word
-unfolding wordLength isBreak
+unfolding untilFirst isBreak
 word-cut [] b rest s f e = rw e
 word-cut (a ∷ word) b rest s f e =
     let gap = lacks-cons space a word s in

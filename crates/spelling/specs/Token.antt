@@ -9,10 +9,13 @@ use Rattle.infon.specs.Bytes.{lineFeed, space}
 unfoldable pub isBreak : ℕ → Bool
 isBreak b = eqb b space || eqb b lineFeed
 
--- how many bytes of a text come before the first break
-unfoldable pub wordLength : List ℕ → ℕ
-wordLength [] = 0
-wordLength (b ∷ s) = cond (isBreak b) 0 (suc (wordLength s))
+-- how many bytes of a text come before the first that passes a test
+unfoldable pub untilFirst : (ℕ → Bool) → List ℕ → ℕ
+untilFirst test [] = 0
+untilFirst test (b ∷ s) = cond (test b) 0 (suc (untilFirst test s))
+
+abbrev pub wordLength : List ℕ → ℕ
+wordLength s = untilFirst isBreak s
 
 -- the token that begins at a place
 unfoldable pub wordAt : List ℕ → ℕ → List ℕ

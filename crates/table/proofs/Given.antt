@@ -1,25 +1,25 @@
 -- The test of a record over the table and the marks is the paper's test of a good record.
 -- Assumes nothing.
-use Prim.Native.Nat.{ℕ, zero, suc, _≤_, _<_}
-use mathlib.Core.Path.{_≡_, refl, sym, _∙_, ap, ap₂, subst}
+use Prim.Native.Nat.{ℕ, _≤_, _<_}
+use mathlib.Core.Path.{_≡_, refl, sym, ap₂, subst}
 use mathlib.Core.Logic.{⊎-elim}
-use mathlib.Core.Bool.{Bool, true, false, _&&_, not, false≢true}
-use mathlib.Core.List.{List, [], _∷_}
+use mathlib.Core.Bool.{Bool, true, false, _&&_, not}
+use mathlib.Core.List.{List}
 use native.Mathlib.Omega.{arith}
 use lib.ListN.{length, getD}
 use lib.Dec.{ltb, eqb}
 use lib.Bits.{bitAnd}
-use borrow.Author.Tests.{ltb-true, lt-ltb, le-ltb, ltb-false}
+use borrow.Author.Tests.{ltb-true, ltb-false}
 use Rattle.infon.specs.declared.Way.{Way}
 use Rattle.infon.specs.declared.Way.the-variants.{Hypothesis, Given, Weaken, Left, Right, Both, Apply, Attach}
 use Rattle.infon.specs.declared.Record.{Record}
-use Rattle.infon.specs.Formula.{Formula, same}
+use Rattle.infon.specs.Formula.{Formula}
 use Rattle.infon.specs.Listing.{isListed}
-use Rattle.infon.specs.Rules.{Shape, truth, primitive, conjunction, implication, shapeOf, prefixUnder, isTruth, isLeft, isRight, areBoth, isConclusion, isCondition, weakenings, numbered, gives}
+use Rattle.infon.specs.Rules.{Shape, truth, primitive, conjunction, implication, shapeOf, isTruth, isLeft, isRight, areBoth, isConclusion, isCondition, weakenings, numbered, gives}
 use Rattle.infon.specs.Journal.{isRecorded, premisesIn, isGood}
 use Rattle.infon.proofs.Rows.{decided, and-true}
 use Rattle.infon.proofs.Least.{PremisesBelow}
-use Rattle.table.specs.Table.{flag, putMask, bottomOf, shapeKind, leftIn, rightIn, numberIn, cellOf, cell, tableColumns, partsListed, Tabled, Marked}
+use Rattle.table.specs.Table.{flag, bottomOf, shapeKind, leftIn, rightIn, cellOf, cell, tableColumns, partsListed, Tabled, Marked}
 use Rattle.table.specs.Tests.{givesIn, isMarked, premisesMarked, leadsTo, goodIn, RecordsBelow, Held}
 use Rattle.table.proofs.Numbers.{same-number, same-numbers}
 use Rattle.table.proofs.Weakened.{weak-test}

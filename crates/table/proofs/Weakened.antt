@@ -1,9 +1,9 @@
 -- Rule 3 as a test on numbers: the bottoms are the same, and the put places of the premise are among those of the formula.
 -- Assumes nothing.
-use Prim.Native.Nat.{ℕ, zero, suc, _+_, _*_, _^_, _≤_, _<_}
+use Prim.Native.Nat.{ℕ, suc, _+_, _*_, _^_, _<_}
 use mathlib.Core.Path.{_≡_, refl, sym, _∙_, ap, ap₂, subst}
-use mathlib.Core.Bool.{Bool, true, false, _&&_}
-use mathlib.Core.List.{List, [], _∷_, _++_, map, append-nil, List·Memᴰ}
+use mathlib.Core.Bool.{true, _&&_}
+use mathlib.Core.List.{List, [], _∷_, _++_, append-nil, List·Memᴰ}
 use native.Mathlib.Nat.{pow-suc}
 use native.Mathlib.Omega.{arith}
 use lib.ListN.{length, length-map}
@@ -85,7 +85,7 @@ place-weaker put said p v w e h more =
 place-weaker put put p v w e h more =
     unchanged (putBy p) (more (let both = common-put put put v w e in omega arith))
 
-allPut-length : (w : Prefix) → length (allPut w) ≡ length w
+pub allPut-length : (w : Prefix) → length (allPut w) ≡ length w
 unfolding allPut
 allPut-length w = length-map w (λ (q : Quotation). record { told = put; principal = q .principal })
 

@@ -1,15 +1,13 @@
+-- `prefix::put_weight` meets its contract: a said place weighs nothing, a put place the whole weight.
+-- Assumes nothing.
 use Rattle.prefix.specs.Places.{putWeight}
 use Rattle.prefix.proofs.put_weight.Statement.{statement}
 use Rattle.prefix.proofs.put_weight.Tie as tie
-use Rattle.prefix.proofs.put_weight.Reads as reads
-use Rattle.prefix.proofs.put_weight.Lts as lts
 
--- src/lib.rt:115:9
 returns : tie.Need-returns
 unfolding putWeight
 returns c = rw (c .if1 .taken)
 
--- src/lib.rt:111:1
 returns-2 : tie.Need-returns-2
 unfolding putWeight
 returns-2 c = rw (c .if1 .left)

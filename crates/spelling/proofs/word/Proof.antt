@@ -1,6 +1,7 @@
 -- `spelling::word` meets its contract: the part from `at` to the token's end is the token.
 -- Assumes nothing.
-use Rattle.spelling.proofs.Breaks.{word-fits, word-part}
+use Rattle.spelling.specs.Token.{isBreak}
+use Rattle.spelling.proofs.Breaks.{until-fits, word-part}
 use borrow.Author.Needs.{needs}
 use native.Mathlib.Omega.{arith}
 use Rattle.spelling.proofs.word.Statement.{statement}
@@ -16,7 +17,7 @@ part-result-start : tie.Need-part-result-start
 part-result-start c = search needs
 
 part-result-end : tie.Need-part-result-end
-part-result-end c = omega (arith, word-fits (c .before .before .args .text .now) (c .before .before .args .at) (c .before .before .pre), c .word-end .ensures)
+part-result-end c = omega (arith, until-fits isBreak (c .before .before .args .text .now) (c .before .before .args .at) (c .before .before .pre), c .word-end .ensures)
 
 returns : tie.Need-returns
 returns c = word-part (c .before .before .before .args .text .now) (c .before .before .before .args .at) (c .before .word-end .result) (c .before .word-end .ensures)

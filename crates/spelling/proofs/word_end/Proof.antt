@@ -3,8 +3,8 @@
 use Prim.Native.Nat.{_+_, _≤_, _-_}
 use mathlib.Core.Path.{_≡_, sym, _∙_}
 use lib.ListN.{length, drop}
-use Rattle.spelling.specs.Token.{wordLength}
-use Rattle.spelling.proofs.Breaks.{word-stop, word-turn, word-over}
+use Rattle.spelling.specs.Token.{isBreak, wordLength}
+use Rattle.spelling.proofs.Breaks.{until-stop, until-turn, until-over}
 use native.Mathlib.Omega.{arith}
 use Rattle.spelling.proofs.word_end.Statement.{statement}
 use Rattle.spelling.proofs.word_end.Tie as tie
@@ -25,7 +25,7 @@ is-break-requires : tie.Need-is-break-requires Inv-loop μ-loop
 is-break-requires c κs = omega arith
 
 returns : tie.Need-returns Inv-loop μ-loop
-returns c = omega (arith, word-stop (c .before .before .before .before .before .before .args .text .now) (c .before .before .before .before .loop .i) (omega arith) (sym (c .before .is-break .ensures) ∙ c .if1 .taken))
+returns c = omega (arith, until-stop isBreak (c .before .before .before .before .before .before .args .text .now) (c .before .before .before .before .loop .i) (omega arith) (sym (c .before .is-break .ensures) ∙ c .if1 .taken))
 
 add-i : tie.Need-add-i Inv-loop μ-loop
 add-i c = omega arith
@@ -34,10 +34,10 @@ loop-less : tie.Need-loop-less Inv-loop μ-loop
 loop-less c = omega arith
 
 loop-again : tie.Need-loop-again Inv-loop μ-loop
-loop-again c = omega (arith, word-turn (c .before .before .before .before .before .before .args .text .now) (c .before .before .before .before .loop .i) (omega arith) (sym (c .before .is-break .ensures) ∙ c .if1 .left))
+loop-again c = omega (arith, until-turn isBreak (c .before .before .before .before .before .before .args .text .now) (c .before .before .before .before .loop .i) (omega arith) (sym (c .before .is-break .ensures) ∙ c .if1 .left))
 
 returns-2 : tie.Need-returns-2 Inv-loop μ-loop
-returns-2 c = omega (arith, word-over (c .before .before .before .args .text .now) (c .before .loop .i) (omega arith))
+returns-2 c = omega (arith, until-over isBreak (c .before .before .before .args .text .now) (c .before .loop .i) (omega arith))
 
 pub word-end-spec : {M : Type 1} → statement M
 word-end-spec =

@@ -2,7 +2,9 @@
 -- the formula's text.
 -- Assumes nothing.
 use mathlib.Core.Path.{sym, _∙_}
-use Rattle.policy.proofs.Feeds.{feed-fits, line-unended, line-short, line-opened, line-unopened}
+use Rattle.spelling.proofs.Breaks.{until-fits}
+use Rattle.policy.specs.Lining.{isFeed}
+use Rattle.policy.proofs.Feeds.{line-unended, line-short, line-opened, line-unopened}
 use borrow.Author.Needs.{needs}
 use native.Mathlib.Omega.{arith}
 use Rattle.policy.proofs.lines.is_well_formed.Statement.{statement}
@@ -24,7 +26,7 @@ add-is-opening : tie.Need-add-is-opening
 add-is-opening c = search needs
 
 shared-slice-read-is-opening-2 : tie.Need-shared-slice-read-is-opening-2
-shared-slice-read-is-opening-2 c = omega (arith, feed-fits (c .before .before .before .before .before .args .file .now) (c .before .before .before .before .before .args .start) (omega arith), c .before .before .before .before .before .pre .1)
+shared-slice-read-is-opening-2 c = omega (arith, until-fits isFeed (c .before .before .before .before .before .args .file .now) (c .before .before .before .before .before .args .start) (omega arith), c .before .before .before .before .before .pre .1)
 
 is-opening-requires : tie.Need-is-opening-requires
 is-opening-requires c κs = search needs
@@ -39,7 +41,7 @@ part-is-formula-start : tie.Need-part-is-formula-start
 part-is-formula-start c = search needs
 
 part-is-formula-end : tie.Need-part-is-formula-end
-part-is-formula-end c = omega (arith, feed-fits (c .before .before .before .before .before .before .before .args .file .now) (c .before .before .before .before .before .before .before .args .start) (omega arith), c .before .before .before .before .before .before .before .pre .1)
+part-is-formula-end c = omega (arith, until-fits isFeed (c .before .before .before .before .before .before .before .args .file .now) (c .before .before .before .before .before .before .before .args .start) (omega arith), c .before .before .before .before .before .before .before .pre .1)
 
 is-formula-requires : tie.Need-is-formula-requires
 is-formula-requires c κs = search needs
@@ -51,7 +53,7 @@ returns-3 c =
     let start = long .before .before .before in
     let file = start .args .file .now in
     let from = start .args .start in
-    let fits = feed-fits file from (omega arith) in
+    let fits = until-fits isFeed file from (omega arith) in
     c .is-formula .ensures
     ∙ line-opened file from (start .args .end) (start .pre .0) (start .pre .1) (omega (arith, fits, start .pre .1, long .before .if1 .left))
     (long .if2 .left) (sym (asked .is-opening .ensures) ∙ c .before .before .if3 .taken)
@@ -63,7 +65,7 @@ returns-4 c =
     let start = long .before .before .before in
     let file = start .args .file .now in
     let from = start .args .start in
-    let fits = feed-fits file from (omega arith) in
+    let fits = until-fits isFeed file from (omega arith) in
     c .if3 .left
     ∙ line-unopened file from (start .args .end) (start .pre .0) (start .pre .1) (omega (arith, fits, start .pre .1, long .before .if1 .left))
     (long .if2 .left) (sym (asked .is-opening .ensures) ∙ c .if3 .left)

@@ -3,8 +3,9 @@
 use Prim.Native.Nat.{_+_, _≤_, _-_}
 use mathlib.Core.Path.{_≡_}
 use lib.ListN.{length, drop}
-use Rattle.policy.specs.Lining.{untilFeed}
-use Rattle.policy.proofs.Feeds.{feed-stop, feed-turn, feed-over}
+use Rattle.spelling.proofs.Breaks.{until-over}
+use Rattle.policy.specs.Lining.{isFeed, untilFeed}
+use Rattle.policy.proofs.Feeds.{feed-stop, feed-turn}
 use native.Mathlib.Omega.{arith}
 use Rattle.policy.proofs.lines.line_end.Statement.{statement}
 use Rattle.policy.proofs.lines.line_end.Tie as tie
@@ -34,7 +35,7 @@ loop-again : tie.Need-loop-again Inv-loop μ-loop
 loop-again c = omega (arith, feed-turn (c .before .before .before .before .args .file .now) (c .before .before .before .loop .i) (omega arith) (c .if1 .left))
 
 returns-2 : tie.Need-returns-2 Inv-loop μ-loop
-returns-2 c = omega (arith, feed-over (c .before .before .args .file .now) (c .before .loop .i) (omega arith))
+returns-2 c = omega (arith, until-over isFeed (c .before .before .args .file .now) (c .before .loop .i) (omega arith))
 
 pub line-end-spec : {M : Type 1} → statement M
 line-end-spec =
