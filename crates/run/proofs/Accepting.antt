@@ -3,21 +3,20 @@
 use Prim.Native.Nat.{ℕ, _+_, _≤_}
 use native.Mathlib.Omega.{arith}
 use mathlib.Core.Path.{_≡_, refl, sym, _∙_, ap, subst, subst₂}
-use mathlib.Core.Logic.{_⊎_, inl, inr, ⊎-elim}
 use mathlib.Core.Bool.{Bool, true, false}
-use mathlib.Core.List.{List, [], _∷_, _++_, map, List·Memᴰ}
+use mathlib.Core.List.{List, [], _∷_, _++_}
 use lib.ListN.{length, take, drop, replicate, length-replicate, length-map, length-append}
 use lib.Seq.{take-at}
 use Rattle.infon.specs.declared.Report.{Report}
 use Rattle.infon.specs.Formula.{Formula}
 use lib.Dec.{ltb}
-use Rattle.infon.specs.Policy.{Entry, formulaIn, when, entriesOf, hypothesesOf, queriesOf, passed, refused, andThen, code1, code2, code3, code4}
+use Rattle.infon.specs.Policy.{Entry, formulaIn, when, entriesOf, queriesOf, passed, refused, andThen, code1, code2, code3, code4}
 use Rattle.infon.specs.Policy as Paper
-use Rattle.infon.specs.Listing.{weakenedBases, isListed, enlist, listOf, mostListed, code5From, code5}
+use Rattle.infon.specs.Listing.{weakenedBases, enlist, listOf, mostListed, code5From, code5}
 use Rattle.infon.specs.Run.{fileVerdict, written, refusal, run}
 use Rattle.infon.proofs.Prefixes.{mem-listed}
 use Rattle.infon.proofs.Listed.{queries-listed}
-use Rattle.nodes.specs.Nodes.{Noded, nodeRows, nodeColumns, nodesOf, countNodes}
+use Rattle.nodes.specs.Nodes.{nodeRows, nodeColumns}
 use Rattle.table.specs.Table.{numberIn, Tabled, tableRows, tableColumns}
 use Rattle.policy.specs.declared.Verdict.{Verdict}
 use Rattle.policy.specs.declared.Verdict.the-variants as VerdictCase
@@ -27,7 +26,6 @@ use Rattle.policy.specs.Tables.{IsCode4}
 use Rattle.policy.specs.Tables as Tables
 use Rattle.policy.proofs.Verdicts.{check-passed}
 use Rattle.policy.proofs.Finish.{filled-tabled}
-use Rattle.prefix.specs.Held.{NodesHeld}
 use Rattle.listing.specs.declared.Listing.{Listing}
 use Rattle.listing.specs.declared.Listing.the-variants as ListingCase
 use Rattle.listing.specs.Outcome.{ListReady, listingOf, TableAfter, queriesAfter, ListedFile}

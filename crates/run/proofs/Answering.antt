@@ -7,7 +7,6 @@ use mathlib.Core.List.{List, [], _∷_, map, List·Memᴰ, List·Memᴰ·head, L
 use lib.ListN.{length, take, getD}
 use lib.Dec.{eqb}
 use Rattle.infon.specs.declared.Record.{Record}
-use Rattle.infon.specs.declared.Answer.{Answer}
 use Rattle.infon.specs.Bytes.{someOf}
 use Rattle.infon.specs.Formula.{Formula, same}
 use Rattle.infon.specs.Listing.{isListed}

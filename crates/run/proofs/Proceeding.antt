@@ -2,15 +2,15 @@
 -- Assumes nothing.
 use Prim.Native.Nat.{ℕ, _*_, _≤_, _<_}
 use native.Mathlib.Omega.{arith}
-use mathlib.Core.Path.{_≡_, refl, sym, _∙_, ap}
+use mathlib.Core.Path.{_≡_, sym, _∙_, ap}
 use mathlib.Core.List.{List}
 use lib.ListN.{length}
 use Rattle.infon.specs.declared.Report.{Report}
 use Rattle.infon.specs.Policy.{entriesOf, hypothesesOf, queriesOf}
 use Rattle.infon.specs.Listing.{listOf}
 use Rattle.infon.specs.Journal.{recordBytes}
-use Rattle.infon.specs.Run.{Outcome, refusal, run}
-use Rattle.run.specs.Prepared.{Prepared, Workable, Works, left, refused, PreparedFor, Acceptable, Proceeds}
+use Rattle.infon.specs.Run.{refusal}
+use Rattle.run.specs.Prepared.{Workable, Works, left, refused, Acceptable, Proceeds}
 use Rattle.run.proofs.Working.{few}
 use Rattle.run.proofs.Outcomes.{refused-6, refused-7, refused-8, succeeded}
 

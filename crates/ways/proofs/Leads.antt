@@ -1,23 +1,22 @@
 -- When a way leads to a formula, said of the cells and the marks; and the walks along a chain.
 -- Assumes nothing.
-use Prim.Native.Nat.{ℕ, zero, suc, _+_, _-_, _≤_, _<_}
-use mathlib.Core.Path.{_≡_, refl, sym, _∙_, ap, subst}
-use mathlib.Core.Logic.{_⊎_, inl, inr, ⊎-elim}
-use mathlib.Core.Bool.{Bool, true, false, cond, _&&_, false≢true}
+use Prim.Native.Nat.{ℕ, suc, _+_, _≤_, _<_}
+use mathlib.Core.Path.{_≡_, refl, sym, _∙_, subst}
+use mathlib.Core.Logic.{⊎-elim}
+use mathlib.Core.Bool.{Bool, true, false, _&&_}
 use mathlib.Core.List.{List}
 use native.Mathlib.Nat.{eq-or-lt-of-le}
 use native.Mathlib.Omega.{arith}
 use lib.ListN.{getD}
 use lib.Dec.{ltb, eqb}
 use lib.Bits.{bitAnd}
-use borrow.Author.Tests.{eqb-true, eq-eqb, ne-eqb, ltb-true, ltb-false}
-use Rattle.infon.specs.declared.Way.the-variants.{Weaken, Left, Right, Both, Apply, Attach}
+use borrow.Author.Tests.{eqb-true, eq-eqb, ltb-true, ltb-false}
+use Rattle.infon.specs.declared.Way.the-variants.{Weaken, Both, Apply, Attach}
 use Rattle.infon.proofs.Rows.{and-true, true-and, decided}
 use Rattle.table.specs.Table.{cell}
 use Rattle.table.specs.Tests.{givesIn, isMarked, premisesMarked, leadsTo}
-use Rattle.table.proofs.Given.{marked-below}
 use Rattle.links.specs.Chains.{FirstFrom, ChainOf}
-use Rattle.ways.specs.Search.{leastBelow, leastPremise, isWhole, leastWhole, conditionIn}
+use Rattle.ways.specs.Search.{leastBelow, isWhole}
 use Rattle.ways.proofs.Firsts.{not-passed, found-least, none-least}
 
 -- tests that fail by their first or their second part

@@ -1,6 +1,6 @@
 -- Rules 6, 7 and 8: the least way of each, a law for each branch of the code.
 -- Assumes nothing.
-use Prim.Native.Nat.{ℕ, zero, suc, _+_, _-_, _≤_, _<_}
+use Prim.Native.Nat.{ℕ, suc, _+_, _≤_, _<_}
 use mathlib.Core.Path.{_≡_, refl, sym, _∙_, ap, subst}
 use mathlib.Core.Logic.{_⊎_, inl, inr, ⊎-elim}
 use mathlib.Core.Bool.{Bool, true, false, cond, _&&_, false≢true}
@@ -23,7 +23,7 @@ use Rattle.links.specs.Chains.{FirstFrom, ChainOf}
 use Rattle.ways.specs.declared.Least.the-variants.{By, Missing}
 use Rattle.ways.specs.Search.{leastOf, leastAmong, pairsOf, conditionIn}
 use Rattle.ways.proofs.Firsts.{not-passed, pair-found, pair-none, map-found, map-none, found-first, none-first}
-use Rattle.ways.proofs.Leads.{Parts, both-parts, both-leads, apply-parts, apply-leads, attach-parts, attach-leads, goes-on, chain-step}
+use Rattle.ways.proofs.Leads.{Parts, both-parts, both-leads, apply-parts, apply-leads, attach-parts, attach-leads, goes-on}
 
 pub found-among : (ways : List Way) (t : List ℕ) (n : ℕ) (marks : List ℕ) (f : ℕ) {way : Way}
     → firstOf (leadsTo t n marks f) ways ≡ some way → By way ≡ leastAmong ways t n marks f
