@@ -34,6 +34,11 @@ pub decided : (b : Bool) → (b ≡ true) ⊎ (b ≡ false)
 decided true = inl refl
 decided false = inr refl
 
+-- a test that is not passed fails
+pub not-true-false : (b : Bool) → (b ≡ true → ⊥) → b ≡ false
+not-true-false true h = absurd (h refl)
+not-true-false false h = refl
+
 pub alike-refl : (s : List ℕ) → alike s s ≡ true
 unfolding alike
 alike-refl [] = refl

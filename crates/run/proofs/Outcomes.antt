@@ -3,16 +3,24 @@
 use Prim.Native.Nat.{ℕ, _+_, _*_, _/_, _≤_, _<_}
 use native.Mathlib.Omega.{arith}
 use mathlib.Core.Path.{_≡_, refl, _∙_, ap}
-use mathlib.Core.List.{List, [], _++_}
-use lib.ListN.{length, length-append}
+use mathlib.Core.List.{List, []}
+use lib.ListN.{length}
 use borrow.Author.Tests.{lt-ltb, le-ltb}
 use Rattle.infon.specs.declared.Record.{Record}
+use Rattle.infon.specs.declared.Report.{Report}
 use Rattle.infon.specs.Policy.{entriesOf, hypothesesOf, queriesOf, Verdict, passed, refused, andThen, when}
 use Rattle.infon.specs.Listing.{listOf}
 use Rattle.infon.specs.Journal.{recordBytes, wholeRecords, keptOf, grown}
 use Rattle.infon.specs.Run.{fileVerdict, code6, code7, code8, code9, Outcome, refusal, success, settled, run}
-use Rattle.infon.proofs.Grown.{kept-good, grown-good, good-append}
-use Rattle.infon.proofs.Missing.{row-short}
+use Rattle.infon.proofs.Grown.{kept-good}
+use Rattle.infon.proofs.Missing.{grown-short}
+use Rattle.run.specs.Prepared.{left}
+
+-- the report of a refusal, with both buffers unchanged
+pub left-refused : (code place used : ℕ) (journal answers : List ℕ) (report : Report) → report ≡ refusal code place used [] [] .report
+    → left report journal answers ≡ refusal code place used journal answers
+unfolding refusal
+left-refused code place used journal answers report e = ap (λ (r : Report). left r journal answers) e
 
 module _ (file journal : List ℕ) (used limit : ℕ) (answers : List ℕ) where
   kept : List Record
@@ -64,11 +72,8 @@ module _ (file journal : List ℕ) (used limit : ℕ) (answers : List ℕ) where
   unfolding kept added keptOf recordBytes
   room fits =
       let all =
-      row-short (hypothesesOf (entriesOf file)) (listOf (entriesOf file)) (kept ++ added)
-      (good-append (hypothesesOf (entriesOf file)) (listOf (entriesOf file)) [] kept added
-      (kept-good (hypothesesOf (entriesOf file)) (listOf (entriesOf file)) [] (wholeRecords (used / 9) journal))
-      (grown-good (hypothesesOf (entriesOf file)) (listOf (entriesOf file)) kept limit)) in
-      let sum = length-append kept added in
+      grown-short (hypothesesOf (entriesOf file)) (listOf (entriesOf file)) kept
+      (kept-good (hypothesesOf (entriesOf file)) (listOf (entriesOf file)) [] (wholeRecords (used / 9) journal)) limit in
       omega arith
 
   pub succeeded : fileVerdict file ≡ passed → recordBytes * length (listOf (entriesOf file)) ≤ length journal → used ≤ length journal
