@@ -1,19 +1,15 @@
 -- Filling the front of a buffer with the answers to a row of queries, one after the other.
 -- Assumes nothing.
-use Prim.Native.Nat.{ℕ, zero, suc, _+_, _≤_, _<_}
+use Prim.Native.Nat.{ℕ, suc, _+_, _≤_, _<_}
 use native.Mathlib.Numerals.{add-one}
 use native.Mathlib.Omega.{arith}
 use mathlib.Core.Path.{_≡_, refl, sym, _∙_, ap}
 use mathlib.Core.Bool.{Bool}
-use mathlib.Core.List.{List, [], _∷_, _++_, map, append-assoc}
+use mathlib.Core.List.{List, [], _∷_, _++_, map, map-append, append-assoc}
 use lib.ListN.{length, take, drop, getD, set, length-map, length-set}
 use lib.Seq.{length-take-le, take-suc, drop-cons, set-at}
 use Rattle.infon.specs.Run.{written}
 use Rattle.answers.specs.Answered.{Answerable, answerAt, answeredBytes}
-
-map-append : {A B : Type 0} (f : A → B) (xs ys : List A) → map f (xs ++ ys) ≡ map f xs ++ map f ys
-map-append f [] ys = refl
-map-append f (x ∷ xs) ys = ap (λ (l : List _). f x ∷ l) (map-append f xs ys)
 
 -- what the buffer holds after the first i answers
 filled : List ℕ → List ℕ → List ℕ → Bool → ℕ → List ℕ

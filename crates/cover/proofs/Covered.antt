@@ -17,7 +17,7 @@ use Rattle.infon.specs.declared.Way.the-variants.{Hypothesis, Given, Weaken, Le
 use Rattle.infon.specs.declared.Record.{Record}
 use Rattle.infon.specs.Bytes.{firstOf}
 use Rattle.infon.specs.Journal.{numbersFrom, allWays}
-use Rattle.infon.proofs.Rows.{and-true, true-and, decided}
+use Rattle.infon.proofs.Rows.{and-true, true-and, decided, not-true-false}
 use Rattle.infon.proofs.Ascending.{first-none}
 use Rattle.infon.proofs.Least.{way-mem}
 use Rattle.table.specs.Tests.{isMarked, premisesMarked, goodIn}
@@ -25,7 +25,7 @@ use Rattle.table.proofs.Given.{premises-below}
 use Rattle.ways.specs.declared.Least.{Least}
 use Rattle.ways.specs.declared.Least.the-variants.{By, Missing}
 use Rattle.ways.specs.Search.{leastOf, dueWayIn, nextIn}
-use Rattle.ways.proofs.Firsts.{all-fail, not-passed}
+use Rattle.ways.proofs.Firsts.{all-fail}
 use Rattle.ways.proofs.Rulewise.{answer-missing}
 use Rattle.ways.proofs.Onward.{nextFrom, onward-begins, onward-found, onward-goes-on, onward-over}
 use Rattle.cover.specs.declared.Next.the-variants.{Due, Finished}
@@ -166,7 +166,7 @@ module _ (t : List ℕ) (n : ℕ) (marks : List ℕ) where
   not-due cover g covers out =
       rw
       (all-fail (λ (way : Way). goodIn t n marks (by g way)) (allWays (numbersFrom 0 n))
-      (λ way. not-passed (goodIn t n marks (by g way)) (λ good. false≢true (sym out ∙ covers (by g way) good))))
+      (λ way. not-true-false (goodIn t n marks (by g way)) (λ good. false≢true (sym out ∙ covers (by g way) good))))
 
   onward-to : (cover : List ℕ) → Covers t n marks cover → (f : ℕ) → f ≤ n → ((i : ℕ) → i < f → isIn cover i ≡ false)
       → nextIn t n marks ≡ nextFrom t n marks f

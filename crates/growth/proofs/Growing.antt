@@ -11,13 +11,13 @@ use lib.ListN.{length, take, drop, set, length-set}
 use Rattle.infon.specs.declared.Record.{Record}
 use Rattle.infon.specs.Journal.{recordBytes, spelled, spelledAll, followed, hasNone, allRecords}
 use Rattle.infon.specs.Run.{written}
-use Rattle.infon.proofs.Codec.{length-spelled, length-spelledAll}
+use Rattle.infon.proofs.Codec.{length-spelled}
 use Rattle.infon.proofs.Grown.{firstOf-passes}
-use Rattle.infon.proofs.Cuts.{length-written}
+use Rattle.infon.proofs.Cuts.{length-written, written-more}
 use Rattle.table.specs.Tests.{goodIn}
 use Rattle.table.proofs.Given.{good-below}
 use Rattle.journal.specs.Kept.{markAll}
-use Rattle.journal.proofs.Writing.{written-more, written-nothing, tail-written}
+use Rattle.journal.proofs.Writing.{written-nothing, tail-written}
 use Rattle.links.specs.Chains.{Ready}
 use Rattle.ways.specs.Search.{nextIn}
 use Rattle.cover.specs.declared.Next.{Next}
@@ -146,7 +146,6 @@ module _ {t links : List ℕ} {n : ℕ} {marks₀ journal₀ : List ℕ} {kept l
           let at : ℕ = (kept + added) * 9 in
           let rest : List Record = grownIn t n (set marks (r .formula) 1) (limit - (added + 1)) in
           let nine : length (spelled r) ≡ 9 = length-spelled r in
-          let all : length (spelledAll rest) ≡ 9 * length rest = length-spelledAll rest in
           let size = ap length goes-on in
           let room = growing .room in
           let fits = record-room in
@@ -165,7 +164,7 @@ module _ {t links : List ℕ} {n : ℕ} {marks₀ journal₀ : List ℕ} {kept l
             spells =
                 growing .spells
                 ∙ ap (λ (l : List Record). written journal at (spelledAll l)) goes-on
-                ∙ sym (written-more journal at (spelled r) (spelledAll rest) (omega arith))
+                ∙ sym (written-more journal at (spelled r) (omega arith) (spelledAll rest))
                 ∙ ap (λ (k : ℕ). written (written journal at (spelled r)) k (spelledAll rest)) after;
           })
 

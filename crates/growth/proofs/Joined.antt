@@ -1,17 +1,17 @@
 -- Where the table and the marks hold a list and its records, what is added over them is what the paper's run adds.
 -- Assumes nothing.
-use Prim.Native.Nat.{ℕ, zero, suc, _+_, _*_, _≤_}
+use Prim.Native.Nat.{ℕ, zero, suc, _*_, _≤_}
 use native.Mathlib.Omega.{arith}
 use mathlib.Core.Path.{_≡_, refl, sym, _∙_, ap}
 use mathlib.Core.Option.{Option, none, some}
 use mathlib.Core.List.{List, [], _∷_, _++_}
-use lib.ListN.{length, set, length-append}
+use lib.ListN.{length, set}
 use Rattle.infon.specs.declared.Record.{Record}
 use Rattle.infon.specs.Formula.{Formula}
 use Rattle.infon.specs.Journal.{recordBytes, spelledAll, next, followed, hasNone, isFinished, grown}
 use Rattle.infon.specs.Run.{written}
-use Rattle.infon.proofs.Grown.{GoodRow, good-append, grown-good, next-good}
-use Rattle.infon.proofs.Missing.{row-short}
+use Rattle.infon.proofs.Grown.{GoodRow, grown-good, next-good}
+use Rattle.infon.proofs.Missing.{grown-short}
 use Rattle.table.specs.Tests.{Held}
 use Rattle.journal.specs.Kept.{markAll}
 use Rattle.journal.proofs.Holding.{held-more, held-row}
@@ -51,9 +51,7 @@ module _ (hyps fs : List Formula) (t : List ℕ) (n : ℕ) where
         → Roomy t links n marks journal (length done) limit
     unfolding recordBytes
     room links journal ready row long =
-        let added = grown hyps fs done limit in
-        let short = row-short hyps fs (done ++ added) (good-append hyps fs [] done added row (grown-good hyps fs done limit)) in
-        let size = length-append done added in
+        let short = grown-short hyps fs done row limit in
         let same = ap length (grown-in limit done marks held) in
         let count = held .count in
         record { ready = ready; room = omega arith }

@@ -16,11 +16,11 @@ Ascending {A = A} R [] = Unit {0}
 Ascending {A = A} R (x ∷ xs) = ((y : A) → List·Memᴰ y xs → R x y) × Ascending R xs
 
 module _ {A : Type 0} where
-  first-passed : (test : A → Bool) (x : A) (xs : List A) → test x ≡ true → firstOf test (x ∷ xs) ≡ some x
+  pub first-passed : (test : A → Bool) (x : A) (xs : List A) → test x ≡ true → firstOf test (x ∷ xs) ≡ some x
   unfolding firstOf
   first-passed test x xs p = rw p
 
-  first-failed : (test : A → Bool) (x : A) (xs : List A) → test x ≡ false → firstOf test (x ∷ xs) ≡ firstOf test xs
+  pub first-failed : (test : A → Bool) (x : A) (xs : List A) → test x ≡ false → firstOf test (x ∷ xs) ≡ firstOf test xs
   unfolding firstOf
   first-failed test x xs p = rw p
 

@@ -2,14 +2,14 @@
 -- from nothing; so runs to the end leave the same bytes.
 -- Assumes nothing.
 use Prim.Native.Nat.{ℕ, _+_, _*_, _/_, _≤_, zero-le, min}
-use native.Mathlib.Nat.{mul-div-le, mul-add, le-trans, le-of-eq}
+use native.Mathlib.Nat.{mul-div-le, mul-add, le-trans, le-of-eq, add-assoc}
 use native.Mathlib.Omega.{arith}
 use mathlib.Core.Path.{_≡_, refl, sym, _∙_, ap}
 use mathlib.Core.Bool.{Bool, true, false, not}
 use mathlib.Core.List.{List, [], _∷_, _++_, append-assoc, append-nil}
 use lib.ListN.{length, take, drop, length-append, length-drop}
 use lib.Dec.{ltb}
-use lib.Seq.{take-all, take-take, take-at, drop-at, length-take-le}
+use lib.Seq.{take-all, take-take, take-at, drop-at, drop-drop, length-take-le}
 use borrow.Author.Tests.{ltb-false}
 use Rattle.infon.specs.declared.Record.{Record}
 use Rattle.infon.specs.Formula.{Formula, depth, nodes}
@@ -29,7 +29,7 @@ pub data Reached (file : List ℕ) : List ℕ → ℕ → Type 0 where
   was-cut : (journal : List ℕ) (used m : ℕ) (after : List ℕ) → Reached file journal used → m ≤ used → take m after ≡ take m journal → Reached file after m
 
 -- New bytes from a place on, where they fit: the length stays; the bytes before them and then they stand in front; the bytes
--- behind them stay.
+-- behind them stay; and more bytes written right behind them are written together with them.
 module _ (buffer : List ℕ) (at : ℕ) (new : List ℕ) (fits : at + length new ≤ length buffer) where
   length-front-written : length (take at buffer ++ new) ≡ at + length new
   length-front-written = simp (length-append, length-take-le at buffer (omega arith))
@@ -49,6 +49,16 @@ module _ (buffer : List ℕ) (at : ℕ) (new : List ℕ) (fits : at + length new
   pub drop-written : drop (at + length new) (written buffer at new) ≡ drop (at + length new) buffer
   unfolding written
   drop-written = rw (← append-assoc) (drop-at (take at buffer ++ new) (drop (at + length new) buffer) (at + length new) length-front-written)
+
+  pub written-more : (more : List ℕ) → written (written buffer at new) (at + length new) more ≡ written buffer at (new ++ more)
+  unfolding written
+  written-more more =
+      ap (λ (l : List ℕ). l ++ (more ++ drop (at + length new + length more) (written buffer at new))) take-written
+      ∙ ap (λ (l : List ℕ). (take at buffer ++ new) ++ (more ++ l))
+      (sym (drop-drop (length more) (at + length new) (written buffer at new))
+      ∙ ap (drop (length more)) drop-written
+      ∙ drop-drop (length more) (at + length new) buffer)
+      ∙ simp (append-assoc, length-append, add-assoc)
 
 -- a refusal's code is at least 1
 data Coded : Verdict → Type 0 where

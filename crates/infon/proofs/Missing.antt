@@ -87,6 +87,12 @@ module _ (hyps fs : List Formula) where
       let long = from-length 0 (length fs) in
       omega arith
 
+  -- what such a row grows to does not either
+  pub grown-short : (done : List Record) → GoodRow hyps fs [] done → (n : ℕ) → length done + length (grown hyps fs done n) ≤ length fs
+  grown-short done row n =
+      let more = grown hyps fs done n in
+      rw (← length-append done more) (row-short (done ++ more) (good-append hyps fs [] done more row (grown-good hyps fs done n)))
+
   finished-or-next : (done : List Record) → (isFinished hyps fs done ≡ true) ⊎ ((r : Record) × (next hyps fs done ≡ some r))
   unfolding isFinished hasNone
   finished-or-next done = by (next hyps fs done) refl
@@ -99,9 +105,7 @@ module _ (hyps fs : List Formula) where
   pub grown-all : (done : List Record) (n : ℕ) → GoodRow hyps fs [] done → length fs ≤ n
       → isFinished hyps fs (done ++ grown hyps fs done n) ≡ true
   grown-all done n row enough =
-      let longer = grown hyps fs done (suc n) in
-      let most = row-short (done ++ longer) (good-append hyps fs [] done longer row (grown-good hyps fs done (suc n))) in
-      let sum = length-append done longer in
+      let most = grown-short done row (suc n) in
       grown-full hyps fs done n (omega arith)
 
 module _ (hyps fs : List Formula) (lists : List-of hyps fs) where

@@ -169,7 +169,7 @@ code5-over before after e within over =
     ∙ counted-over addBases length addBases-grows mostListed 5 (λ (f : Entry). f .start) [] before e after (omega arith)
     (subst (λ (fs : List Formula). mostListed < length (enlist fs (weakenedBases [] (formulaIn (e .sentence))))) (sym (gone-bases [] before)) (omega arith))
 
-over-code5 : (entries : List Entry)
+pub over-code5 : (entries : List Entry)
     → (code5From [] entries ≡ passed)
     ⊎ ((at : ℕ) × ((code5From [] entries ≡ refused 5 at)
     × ((before : List Entry) × ((after : List Entry) × ((e : Entry) × ((entries ≡ before ++ (e ∷ after)) × ((length (listOf before) ≤ mostListed)

@@ -25,7 +25,7 @@ pub when-false : (b : Bool) (code place : ℕ) → b ≡ false → when b code p
 unfolding when
 when-false b code place h = rw h
 
-passed-refused : {code place : ℕ} → passed ≡ refused code place → ⊥
+pub passed-refused : {code place : ℕ} → passed ≡ refused code place → ⊥
 passed-refused e = let z : _≡_ {A = ℕ} 0 1 = cc in omega arith
 
 pub passed-or-refused : (v : Verdict) → (v ≡ passed) ⊎ ((code : ℕ) × ((place : ℕ) × (v ≡ refused code place)))
@@ -35,11 +35,11 @@ passed-or-refused (refused code place) = inr (code, (place, refl))
 pub refused-same : {c p d q : ℕ} → refused c p ≡ refused d q → (c ≡ d) × (p ≡ q)
 refused-same e = (cc, cc)
 
-pass-on : {v : Verdict} → v ≡ passed → (later : Verdict) → andThen v later ≡ later
+pub pass-on : {v : Verdict} → v ≡ passed → (later : Verdict) → andThen v later ≡ later
 unfolding andThen
 pass-on h later = rw h
 
-stop-at : {v : Verdict} {code place : ℕ} → v ≡ refused code place → (later : Verdict) → andThen v later ≡ refused code place
+pub stop-at : {v : Verdict} {code place : ℕ} → v ≡ refused code place → (later : Verdict) → andThen v later ≡ refused code place
 unfolding andThen
 stop-at h later = rw h
 

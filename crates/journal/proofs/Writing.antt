@@ -2,34 +2,21 @@
 -- Assumes nothing.
 use Prim.Native.Nat.{ℕ, _+_, _-_, _/_, _%_, _≤_, _<_}
 use native.Mathlib.Numerals.{add-one}
-use native.Mathlib.Nat.{add-zero, zero-add, add-assoc}
+use native.Mathlib.Nat.{add-zero, zero-add}
 use native.Mathlib.Omega.{arith}
-use mathlib.Core.Path.{_≡_, sym, _∙_, ap}
+use mathlib.Core.Path.{_≡_, _∙_, ap}
 use mathlib.Core.List.{List, [], _∷_, _++_, append-assoc, append-nil}
-use lib.ListN.{length, take, drop, set, length-append, length-drop, take-append-drop, drop-of-length-le}
+use lib.ListN.{length, take, drop, set, length-drop, take-append-drop, drop-of-length-le}
 use lib.Seq.{take-all, sets, sets-eq, drop-drop}
 use Rattle.infon.specs.declared.Record.{Record}
 use Rattle.infon.specs.Journal.{ruleOf, firstPremise, secondPremise, twoBytes, spelled}
 use Rattle.infon.specs.Run.{written}
-use Rattle.infon.proofs.Cuts.{take-written, drop-written}
+use Rattle.infon.proofs.Cuts.{written-more}
 
 -- stores one after the other
 pub sets-written : (s : List ℕ) (at : ℕ) (new : List ℕ) → at + length new ≤ length s → sets s at new ≡ written s at new
 unfolding written
 sets-written s at new fits = sets-eq new s at fits ∙ append-assoc (take at s) new (drop (at + length new) s)
-
--- what is written right after what was written
-pub written-more : (s : List ℕ) (at : ℕ) (new more : List ℕ) → at + length new + length more ≤ length s
-    → written (written s at new) (at + length new) more ≡ written s at (new ++ more)
-unfolding written
-written-more s at new more fits =
-    let front = take-written s at new (omega arith) in
-    let behind : drop (at + length new + length more) (written s at new) ≡ drop (at + length (new ++ more)) s =
-    sym (drop-drop (length more) (at + length new) (written s at new))
-    ∙ ap (drop (length more)) (drop-written s at new (omega arith))
-    ∙ drop-drop (length more) (at + length new) s
-    ∙ ap (λ (k : ℕ). drop k s) (add-assoc at (length new) (length more) ∙ ap (λ (k : ℕ). at + k) (sym (length-append new more))) in
-    rw (front, behind, append-assoc, append-assoc)
 
 pub written-nothing : (s : List ℕ) (at : ℕ) → written s at [] ≡ s
 unfolding written
@@ -64,9 +51,9 @@ record-written s r {rule} {p} {q} {a} {b} {c} fits er ep eq ea eb ec =
     let three : List ℕ = 0x4C ∷ (0x51 ∷ (rule ∷ [])) in
     let five : List ℕ = three ++ twoBytes (r .formula) in
     let a-is : a ≡ written s 0 five =
-    ea ∙ ap (λ (l : List ℕ). written l 3 (twoBytes (r .formula))) front ∙ written-more s 0 three (twoBytes (r .formula)) (omega arith) in
+    ea ∙ ap (λ (l : List ℕ). written l 3 (twoBytes (r .formula))) front ∙ written-more s 0 three (omega arith) (twoBytes (r .formula)) in
     let b-is : b ≡ written s 0 (five ++ twoBytes p) =
-    eb ∙ ap (λ (l : List ℕ). written l 5 (twoBytes p)) a-is ∙ written-more s 0 five (twoBytes p) (omega arith) in
+    eb ∙ ap (λ (l : List ℕ). written l 5 (twoBytes p)) a-is ∙ written-more s 0 five (omega arith) (twoBytes p) in
     let c-is : c ≡ written s 0 (five ++ twoBytes p ++ twoBytes q) =
-    ec ∙ ap (λ (l : List ℕ). written l 7 (twoBytes q)) b-is ∙ written-more s 0 (five ++ twoBytes p) (twoBytes q) (omega arith) in
+    ec ∙ ap (λ (l : List ℕ). written l 7 (twoBytes q)) b-is ∙ written-more s 0 (five ++ twoBytes p) (omega arith) (twoBytes q) in
     rw (← er, ← ep, ← eq) c-is

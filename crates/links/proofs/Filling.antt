@@ -1,14 +1,13 @@
 -- One law for each turn of the loops that fill the links.
 -- Assumes nothing.
 use Prim.Native.Nat.{ℕ, zero, suc, _+_, _-_, _≤_, _<_}
-use mathlib.Core.Path.{_≡_, refl, sym, _∙_, ap}
+use mathlib.Core.Path.{_≡_, refl, _∙_, ap}
 use mathlib.Core.List.{List}
 use native.Mathlib.Omega.{arith}
-use lib.ListN.{length, getD, set, length-set}
-use lib.Dec.{ltb}
+use lib.ListN.{getD, set}
 use borrow.Author.Tests.{lt-ltb, le-ltb}
 use Rattle.table.specs.Table.{noNumber, cell}
-use Rattle.links.specs.Chains.{firstEntry, nextEntry, noneFirst, linkPlace, linkDown, chainIn, linkedIn}
+use Rattle.links.specs.Chains.{noneFirst, linkPlace, linkDown, chainIn, linkedIn}
 
 pub none-turn : (at x : ℕ) (links : List ℕ) → 0 < x
     → noneFirst at x links ≡ noneFirst at (x - 1) (set links (at + (x - 1)) 65535)

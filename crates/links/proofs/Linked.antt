@@ -1,8 +1,8 @@
 -- What `link` writes are the chains of the three columns: the places of a column are gone through from the last to the first, and
 -- at each turn the entries are right for the places gone through.
 -- Assumes nothing.
-use Prim.Native.Nat.{ℕ, zero, suc, _+_, _-_, _≤_, _<_}
-use mathlib.Core.Path.{_≡_, refl, sym, _∙_, ap, subst}
+use Prim.Native.Nat.{ℕ, zero, suc, _+_, _≤_, _<_}
+use mathlib.Core.Path.{_≡_, refl, _∙_, ap, subst}
 use mathlib.Core.Logic.{_⊎_, inl, ⊎-elim}
 use mathlib.Core.Bool.{true, false}
 use mathlib.Core.List.{List}
@@ -13,10 +13,9 @@ use lib.Seq.{getD-set-same, getD-set-other}
 use lib.Dec.{ltb, eqb}
 use borrow.Author.Tests.{lt-ltb, le-ltb, ltb-true, ltb-false, eqb-true, eqb-false}
 use Rattle.infon.specs.Formula.{Formula}
-use Rattle.infon.specs.Listing.{isListed}
 use Rattle.infon.specs.Rules.{numbered}
 use Rattle.infon.proofs.Rows.{decided}
-use Rattle.table.specs.Table.{noNumber, cell, cellOf, bottomOf, tableRows, tableColumns, Tabled}
+use Rattle.table.specs.Table.{noNumber, cell, cellOf, bottomOf, tableColumns, Tabled}
 use Rattle.table.proofs.Numbers.{numberIn-below}
 use Rattle.links.specs.Chains.{FirstFrom, ChainOf, Ready, noneFirst, linkPlace, linkDown, chainIn, linkedIn}
 

@@ -18,7 +18,7 @@ unfolding verdictOf
 was-passed passed e = refl
 was-passed (refused code place) e = let z : _≡_ {A = ℕ} 0 1 = cc in absurd (omega arith)
 
-was-refused : (v : Policy.Verdict) (code place : ℕ) → verdictOf v ≡ Refused code place → v ≡ refused code place
+pub was-refused : (v : Policy.Verdict) (code place : ℕ) → verdictOf v ≡ Refused code place → v ≡ refused code place
 unfolding verdictOf
 was-refused passed code place e = let z : _≡_ {A = ℕ} 0 1 = cc in absurd (omega arith)
 was-refused (refused c p) code place e = cc

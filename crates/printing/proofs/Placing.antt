@@ -1,27 +1,14 @@
 -- Texts put into a buffer one after the other are one text put there; what a function that prints promises leaves one answer.
 -- Assumes nothing.
 use Prim.Native.Nat.{ℕ, _+_, _-_, _≤_}
-use native.Mathlib.Nat.{add-assoc}
 use native.Mathlib.Omega.{arith}
 use mathlib.Core.Path.{_≡_, refl, sym, _∙_, ap}
-use mathlib.Core.List.{List, [], _++_, append-assoc, append-nil}
+use mathlib.Core.List.{List, [], _++_, append-nil}
 use lib.ListN.{length, take, drop, length-append, length-drop}
 use lib.Seq.{take-length, drop-length, drop-drop, length-take-le}
 use Rattle.infon.specs.Run.{written}
-use Rattle.infon.proofs.Cuts.{length-written, take-written, drop-written}
+use Rattle.infon.proofs.Cuts.{length-written, written-more}
 use Rattle.printing.specs.Placed.{Put, Prints}
-
--- a text written right behind another
-pub written-on : (buffer : List ℕ) (at : ℕ) (one two : List ℕ) → at + length one ≤ length buffer
-    → written (written buffer at one) (at + length one) two ≡ written buffer at (one ++ two)
-unfolding written
-written-on buffer at one two fits =
-    ap (λ (l : List ℕ). l ++ (two ++ drop (at + length one + length two) (written buffer at one))) (take-written buffer at one fits)
-    ∙ ap (λ (l : List ℕ). (take at buffer ++ one) ++ (two ++ l))
-    (sym (drop-drop (length two) (at + length one) (written buffer at one))
-    ∙ ap (drop (length two)) (drop-written buffer at one fits)
-    ∙ drop-drop (length two) (at + length one) buffer)
-    ∙ simp (append-assoc, length-append, add-assoc)
 
 -- the whole of a row, with a text copied over its front
 front-copied : (row text : List ℕ) (k : ℕ) → k ≡ length row
@@ -53,7 +40,7 @@ pub put-on : {one two : List ℕ} {at : ℕ} {b₀ b₁ b₂ : List ℕ} {r₁ r
 put-on {one} {two} {at} {b₀} p q fits =
     record {
       ends = rw length-append (omega (arith, p .ends, q .ends));
-      holds = q .holds ∙ rw (p .ends, p .holds) (written-on b₀ at one two fits);
+      holds = q .holds ∙ rw (p .ends, p .holds) (written-more b₀ at one fits two);
     }
 
 -- nothing yet

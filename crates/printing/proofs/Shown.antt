@@ -1,5 +1,5 @@
--- The desk's rows as they are printed, and what is printed of a run whose answer buffer was filled before: a line for each
--- query, no more and no fewer.
+-- Rows of answers and refusals as they are printed, and what is printed of a run whose answer buffer was filled before: a line
+-- for each query, no more and no fewer.
 -- Assumes nothing.
 use Prim.Native.Nat.{ℕ, zero, suc, _+_, _≤_}
 use native.Mathlib.Omega.{arith}
@@ -18,11 +18,6 @@ use Rattle.infon.specs.Journal.{keptOf, grown}
 use Rattle.infon.specs.Run.{Outcome, answerByte, answersOf, written, success, refusal, run}
 use Rattle.infon.proofs.Cuts.{run-cases}
 use Rattle.printing.specs.Printed.{digitsOf, decimalOf, wordOf, lineOf, printedFrom, printedAnswers, printedRefusal, noAnswer, answeredIn, printedRun, printedOf}
-
--- "Case 2 prints, whole: .."
-pub case-2-printed : printedAnswers (map answerByte (Yes ∷ Yes ∷ No ∷ [])) ≡ bytes "1 yes\n2 yes\n3 no\n"
-unfolding printedAnswers printedFrom lineOf wordOf decimalOf digitsOf answerByte bytes space lineFeed
-case-2-printed = refl
 
 -- no queries: nothing is printed, not even a line feed
 pub none-printed : printedAnswers [] ≡ []

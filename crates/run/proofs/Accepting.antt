@@ -3,31 +3,30 @@
 use Prim.Native.Nat.{ℕ, _+_, _≤_}
 use native.Mathlib.Omega.{arith}
 use mathlib.Core.Path.{_≡_, refl, sym, _∙_, ap, subst, subst₂}
-use mathlib.Core.Logic.{_⊎_, inl, inr, ⊎-elim}
-use mathlib.Core.Bool.{Bool, true, false}
-use mathlib.Core.List.{List, [], _∷_, _++_, map, List·Memᴰ}
+use mathlib.Core.Logic.{⊎-elim}
+use mathlib.Core.List.{List, [], _++_}
 use lib.ListN.{length, take, drop, replicate, length-replicate, length-map, length-append}
 use lib.Seq.{take-at}
 use Rattle.infon.specs.declared.Report.{Report}
-use Rattle.infon.specs.Formula.{Formula}
-use lib.Dec.{ltb}
-use Rattle.infon.specs.Policy.{Entry, formulaIn, when, entriesOf, hypothesesOf, queriesOf, passed, refused, andThen, code1, code2, code3, code4}
+use Rattle.infon.specs.Policy.{entriesOf, queriesOf, passed, refused, andThen, code1, code2, code3, code4}
 use Rattle.infon.specs.Policy as Paper
-use Rattle.infon.specs.Listing.{weakenedBases, isListed, enlist, listOf, mostListed, code5From, code5}
+use Rattle.infon.specs.Listing.{listOf, code5}
 use Rattle.infon.specs.Run.{fileVerdict, written, refusal, run}
+use Rattle.infon.proofs.Cuts.{andThen-passed}
+use Rattle.infon.proofs.Tried.{passed-refused, refused-same, pass-on, stop-at, andThen-assoc}
+use Rattle.infon.proofs.Refusals.{over-code5}
 use Rattle.infon.proofs.Prefixes.{mem-listed}
 use Rattle.infon.proofs.Listed.{queries-listed}
-use Rattle.nodes.specs.Nodes.{Noded, nodeRows, nodeColumns, nodesOf, countNodes}
-use Rattle.table.specs.Table.{numberIn, Tabled, tableRows, tableColumns}
+use Rattle.nodes.specs.Nodes.{nodeRows, nodeColumns}
+use Rattle.table.specs.Table.{numberIn, tableRows, tableColumns}
 use Rattle.policy.specs.declared.Verdict.{Verdict}
 use Rattle.policy.specs.declared.Verdict.the-variants as VerdictCase
 use Rattle.policy.specs.Codes.{verdictOf}
 use Rattle.policy.specs.Filling.{Filled}
 use Rattle.policy.specs.Tables.{IsCode4}
 use Rattle.policy.specs.Tables as Tables
-use Rattle.policy.proofs.Verdicts.{check-passed}
+use Rattle.policy.proofs.Verdicts.{was-passed, was-refused, check-passed}
 use Rattle.policy.proofs.Finish.{filled-tabled}
-use Rattle.prefix.specs.Held.{NodesHeld}
 use Rattle.listing.specs.declared.Listing.{Listing}
 use Rattle.listing.specs.declared.Listing.the-variants as ListingCase
 use Rattle.listing.specs.Outcome.{ListReady, listingOf, TableAfter, queriesAfter, ListedFile}
@@ -35,38 +34,9 @@ use Rattle.listing.specs.Lines.{queryNumbers}
 use Rattle.run.specs.declared.Stage.{Stage}
 use Rattle.run.specs.declared.Stage.the-variants as StageCase
 use Rattle.run.specs.Prepared.{PreparedFor, Accepts, left}
-use Rattle.run.specs.Prepared.{refused as told}
-use Rattle.run.proofs.Outcomes.{file-refused}
+use Rattle.run.proofs.Outcomes.{left-refused, file-refused}
 
--- what the code's verdict tells of the paper's
-told-passed : (v : Paper.Verdict) → verdictOf v ≡ VerdictCase.Passed → v ≡ passed
-unfolding verdictOf
-told-passed passed h = refl
-told-passed (refused code place) h = let z : _≡_ {A = ℕ} 0 1 = cc in absurd (omega arith)
-
-told-refused : (v : Paper.Verdict) (code place : ℕ) → verdictOf v ≡ VerdictCase.Refused code place → v ≡ refused code place
-unfolding verdictOf
-told-refused passed code place h = let z : _≡_ {A = ℕ} 0 1 = cc in absurd (omega arith)
-told-refused (refused c p) code place h = cc
-
-andThen-refused : (v w : Paper.Verdict) (code place : ℕ) → v ≡ refused code place → andThen v w ≡ refused code place
-unfolding andThen
-andThen-refused v w code place h = rw h
-
-andThen-on : (v w : Paper.Verdict) → v ≡ passed → andThen v w ≡ w
-unfolding andThen
-andThen-on v w h = rw h
-
-andThen-assoc : (u v w : Paper.Verdict) → andThen (andThen u v) w ≡ andThen u (andThen v w)
-unfolding andThen
-andThen-assoc passed v w = refl
-andThen-assoc (refused code place) v w = refl
-
-andThen-both : (v w : Paper.Verdict) → andThen v w ≡ passed → (v ≡ passed) × (w ≡ passed)
-unfolding andThen
-andThen-both passed w e = (refl, e)
-andThen-both (refused code place) w e = let z : _≡_ {A = ℕ} 0 1 = cc in absurd (omega arith)
-
+-- what the list's answer tells of the paper's verdict
 listing-passed : (v : Paper.Verdict) (l q formulas asked : ℕ) → listingOf v l q ≡ ListingCase.Listed formulas asked
     → (v ≡ passed) × ((formulas ≡ l) × (asked ≡ q))
 unfolding listingOf
@@ -80,22 +50,12 @@ listing-refused passed l q place h = let z : _≡_ {A = ℕ} 0 1 = cc in absurd 
 listing-refused (refused code p) l q place h = (code, cc)
 
 -- code 5 is the only code that its search gives
-first-or-later : (b : Bool) (k at : ℕ) (later : Paper.Verdict) (code place : ℕ) → andThen (when b k at) later ≡ refused code place
-    → (later ≡ refused code place → code ≡ k) → code ≡ k
-unfolding andThen when
-first-or-later true k at later code place h next = cc
-first-or-later false k at later code place h next = next h
-
-code5-five : (fs : List Formula) (es : List Entry) (code place : ℕ) → code5From fs es ≡ refused code place → code ≡ 5
-unfolding code5From
-code5-five fs [] code place h = let z : _≡_ {A = ℕ} 0 1 = cc in absurd (omega arith)
-code5-five fs (e ∷ rest) code place h =
-    let now = enlist fs (weakenedBases [] (formulaIn (e .sentence))) in
-    first-or-later (ltb mostListed (length now)) 5 (e .start) (code5From now rest) code place h (code5-five now rest code place)
-
-code5-opened : (file : List ℕ) → code5From [] (entriesOf file) ≡ code5 (entriesOf file)
+only-five : (file : List ℕ) (code place : ℕ) → code5 (entriesOf file) ≡ refused code place → code5 (entriesOf file) ≡ refused 5 place
 unfolding code5
-code5-opened file = refl
+only-five file code place h =
+    ⊎-elim (λ pass. absurd (passed-refused (sym pass ∙ h)))
+    (λ found. h ∙ ap (λ (c : ℕ). refused c place) (refused-same (sym h ∙ found .1 .0) .0))
+    (over-code5 (entriesOf file))
 
 -- the verdict is the first three codes, and then the others
 verdict-split : (file : List ℕ)
@@ -111,14 +71,14 @@ pub record FourPassed (file : List ℕ) : Type 0 where
   pub third : code3 (entriesOf file) ≡ passed
   pub fourth : code4 (entriesOf file) ≡ passed
 
+verdict-four : (file : List ℕ) → code1 file ≡ passed → code2 file ≡ passed → code3 (entriesOf file) ≡ passed
+    → fileVerdict file ≡ andThen (code4 (entriesOf file)) (code5 (entriesOf file))
+unfolding fileVerdict andThen
+verdict-four file first second third = rw (first, second, third)
+
 verdict-five : (file : List ℕ) → FourPassed file → fileVerdict file ≡ code5 (entriesOf file)
-unfolding fileVerdict
 verdict-five file four =
-    andThen-on (code1 file) (andThen (code2 file) (andThen (code3 (entriesOf file)) (andThen (code4 (entriesOf file)) (code5 (entriesOf file)))))
-    (four .first)
-    ∙ (andThen-on (code2 file) (andThen (code3 (entriesOf file)) (andThen (code4 (entriesOf file)) (code5 (entriesOf file)))) (four .second)
-    ∙ (andThen-on (code3 (entriesOf file)) (andThen (code4 (entriesOf file)) (code5 (entriesOf file))) (four .third)
-    ∙ andThen-on (code4 (entriesOf file)) (code5 (entriesOf file)) (four .fourth)))
+    verdict-four file (four .first) (four .second) (four .third) ∙ pass-on (four .fourth) (code5 (entriesOf file))
 
 module _ (file : List ℕ) (checked : Verdict)
     (is : checked ≡ verdictOf (andThen (code1 file) (andThen (code2 file) (code3 (entriesOf file))))) where
@@ -128,15 +88,14 @@ module _ (file : List ℕ) (checked : Verdict)
       let front = andThen (code1 file) (andThen (code2 file) (code3 (entriesOf file))) in
       let verdict : fileVerdict file ≡ refused code place =
       verdict-split file
-      ∙ andThen-refused front (andThen (code4 (entriesOf file)) (code5 (entriesOf file))) code place
-      (told-refused front code place (sym is ∙ h)) in
+      ∙ stop-at (was-refused front code place (sym is ∙ h)) (andThen (code4 (entriesOf file)) (code5 (entriesOf file))) in
       subst (λ (v : Paper.Verdict). Accepts v file t numbers (StageCase.Refused code place)) (sym verdict) refl
 
   three : checked ≡ VerdictCase.Passed → (code1 file ≡ passed) × ((code2 file ≡ passed) × (code3 (entriesOf file) ≡ passed))
   three h =
       let later = andThen (code2 file) (code3 (entriesOf file)) in
-      let one = andThen-both (code1 file) later (told-passed (andThen (code1 file) later) (sym is ∙ h)) in
-      (one .0, andThen-both (code2 file) (code3 (entriesOf file)) (one .1))
+      let one = andThen-passed (code1 file) later (was-passed (andThen (code1 file) later) (sym is ∙ h)) in
+      (one .0, andThen-passed (code2 file) (code3 (entriesOf file)) (one .1))
 
   pub first-passed : checked ≡ VerdictCase.Passed → length file ≤ 32768
   first-passed h = check-passed file (sym is ∙ h) .0
@@ -157,15 +116,11 @@ module _ (file : List ℕ) (checked : Verdict)
 
       pub refused-fourth : (table numbers : List ℕ) (code place : ℕ) → deep ≡ VerdictCase.Refused code place
           → Accepts (fileVerdict file) file table numbers (StageCase.Refused code place)
-      unfolding fileVerdict
       refused-fourth table numbers code place h =
           let codes = three pass in
           let verdict : fileVerdict file ≡ refused code place =
-          verdict-split file
-          ∙ (andThen-on (andThen (code1 file) (andThen (code2 file) (code3 (entriesOf file)))) (andThen (code4 (entriesOf file)) (code5 (entriesOf file)))
-          (andThen-on (code1 file) (andThen (code2 file) (code3 (entriesOf file))) (codes .0)
-          ∙ (andThen-on (code2 file) (code3 (entriesOf file)) (codes .1 .0) ∙ codes .1 .1))
-          ∙ andThen-refused (code4 (entriesOf file)) (code5 (entriesOf file)) code place (told-refused (code4 (entriesOf file)) code place (sym deep-is ∙ h))) in
+          verdict-four file (codes .0) (codes .1 .0) (codes .1 .1)
+          ∙ stop-at (was-refused (code4 (entriesOf file)) code place (sym deep-is ∙ h)) (code5 (entriesOf file)) in
           subst (λ (v : Paper.Verdict). Accepts v file table numbers (StageCase.Refused code place)) (sym verdict) refl
 
       four : deep ≡ VerdictCase.Passed → FourPassed file
@@ -175,7 +130,7 @@ module _ (file : List ℕ) (checked : Verdict)
             first = codes .0;
             second = codes .1 .0;
             third = codes .1 .1;
-            fourth = told-passed (code4 (entriesOf file)) (sym deep-is ∙ h);
+            fourth = was-passed (code4 (entriesOf file)) (sym deep-is ∙ h);
           }
 
       pub list-asks : (table queries : List ℕ) → deep ≡ VerdictCase.Passed → length table ≡ 24576 → 1024 ≤ length queries
@@ -206,8 +161,7 @@ module _ (file : List ℕ) (checked : Verdict)
             let found =
             listing-refused (code5 (entriesOf file)) (length (listOf (entriesOf file))) (length (queriesOf (entriesOf file))) place
             (sym (lists .answer) ∙ h) in
-            let five : code5 (entriesOf file) ≡ refused 5 place =
-            found .1 ∙ ap (λ (code : ℕ). refused code place) (code5-five [] (entriesOf file) (found .0) place (code5-opened file ∙ found .1)) in
+            let five = only-five file (found .0) place (found .1) in
             subst (λ (v : Paper.Verdict). Accepts v file table' queries' (StageCase.Refused 5 place))
             (sym (verdict-five file (four pass-deep) ∙ five)) refl
 
@@ -268,8 +222,7 @@ module _ (file t numbers : List ℕ) (stage : Stage) where
 
   pub file-refuses : (journal : List ℕ) (used limit : ℕ) (answers : List ℕ) (report : Report)
       → Accepts (fileVerdict file) file t numbers stage → (code place : ℕ) → stage ≡ StageCase.Refused code place
-      → report ≡ told code place used → left report journal answers ≡ run file journal used limit answers
-  unfolding refusal told
+      → report ≡ refusal code place used [] [] .report → left report journal answers ≡ run file journal used limit answers
   file-refuses journal used limit answers report accepts code place h is =
-      ap (λ (r : Report). left r journal answers) is
+      left-refused code place used journal answers report is
       ∙ sym (file-refused file journal used limit answers code place (refused-by (fileVerdict file) accepts code place h))

@@ -3,11 +3,10 @@
 use Prim.Native.Nat.{ℕ, _<_}
 use mathlib.Core.Path.{_≡_, refl, sym, _∙_, ap, ap₂, subst}
 use mathlib.Core.Bool.{Bool, true, false, _||_}
-use mathlib.Core.List.{List, [], _∷_, map, List·Memᴰ, List·Memᴰ·head, List·Memᴰ·tail}
+use mathlib.Core.List.{List, [], _∷_, map, map-map, List·Memᴰ, List·Memᴰ·head, List·Memᴰ·tail}
 use lib.ListN.{length, take, getD}
 use lib.Dec.{eqb}
 use Rattle.infon.specs.declared.Record.{Record}
-use Rattle.infon.specs.declared.Answer.{Answer}
 use Rattle.infon.specs.Bytes.{someOf}
 use Rattle.infon.specs.Formula.{Formula, same}
 use Rattle.infon.specs.Listing.{isListed}
@@ -30,10 +29,6 @@ someOf-same test other (x ∷ xs) each =
 map-same : {A B : Type 0} (f g : A → B) (xs : List A) → ((x : A) → List·Memᴰ x xs → f x ≡ g x) → map f xs ≡ map g xs
 map-same f g [] each = refl
 map-same f g (x ∷ xs) each = ap₂ (λ y ys. y ∷ ys) (each x (List·Memᴰ·head refl)) (map-same f g xs (λ y m. each y (List·Memᴰ·tail m)))
-
-map-map : {A B C : Type 0} (f : B → C) (g : A → B) (xs : List A) → map f (map g xs) ≡ map (λ (x : A). f (g x)) xs
-map-map f g [] = refl
-map-map f g (x ∷ xs) = ap (λ (l : List _). f (g x) ∷ l) (map-map f g xs)
 
 flag-is : (b : Bool) → eqb (flag b) 1 ≡ b
 unfolding flag

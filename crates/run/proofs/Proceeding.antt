@@ -2,23 +2,17 @@
 -- Assumes nothing.
 use Prim.Native.Nat.{ℕ, _*_, _≤_, _<_}
 use native.Mathlib.Omega.{arith}
-use mathlib.Core.Path.{_≡_, refl, sym, _∙_, ap}
-use mathlib.Core.List.{List}
+use mathlib.Core.Path.{_≡_, sym, _∙_}
+use mathlib.Core.List.{List, []}
 use lib.ListN.{length}
 use Rattle.infon.specs.declared.Report.{Report}
 use Rattle.infon.specs.Policy.{entriesOf, hypothesesOf, queriesOf}
 use Rattle.infon.specs.Listing.{listOf}
 use Rattle.infon.specs.Journal.{recordBytes}
-use Rattle.infon.specs.Run.{Outcome, refusal, run}
-use Rattle.run.specs.Prepared.{Prepared, Workable, Works, left, refused, PreparedFor, Acceptable, Proceeds}
+use Rattle.infon.specs.Run.{refusal}
+use Rattle.run.specs.Prepared.{Workable, Works, Acceptable, Proceeds}
 use Rattle.run.proofs.Working.{few}
-use Rattle.run.proofs.Outcomes.{refused-6, refused-7, refused-8, succeeded}
-
--- the report of a refusal, with both buffers unchanged
-left-refused : (code place used : ℕ) (journal answers : List ℕ) (report : Report) → report ≡ refused code place used
-    → left report journal answers ≡ refusal code place used journal answers
-unfolding refusal refused
-left-refused code place used journal answers report e = ap (λ (r : Report). left r journal answers) e
+use Rattle.run.proofs.Outcomes.{left-refused, refused-6, refused-7, refused-8, succeeded}
 
 pub acceptable-few : (t : List ℕ) (n : ℕ) (numbers : List ℕ) (asked : ℕ) → Acceptable t n numbers asked → n ≤ 4096
 acceptable-few t n numbers asked some =
@@ -26,21 +20,21 @@ acceptable-few t n numbers asked some =
     (some .for-file .prepared)
 
 module _ (t : List ℕ) (n : ℕ) (numbers : List ℕ) (asked : ℕ) (journal : List ℕ) (used limit : ℕ) (answers : List ℕ) where
-  pub code-6 : (report : Report) → length journal < 9 * n → report ≡ refused 6 0 used
+  pub code-6 : (report : Report) → length journal < 9 * n → report ≡ refusal 6 0 used [] [] .report
       → Proceeds t n numbers asked journal used limit answers report journal answers
   unfolding recordBytes
   code-6 report short is file prepared =
       left-refused 6 0 used journal answers report is
       ∙ sym (refused-6 file journal used limit answers (prepared .accepted) (let e = prepared .prepared .count in omega arith))
 
-  pub code-7 : (report : Report) → 9 * n ≤ length journal → length journal < used → report ≡ refused 7 0 used
+  pub code-7 : (report : Report) → 9 * n ≤ length journal → length journal < used → report ≡ refusal 7 0 used [] [] .report
       → Proceeds t n numbers asked journal used limit answers report journal answers
   unfolding recordBytes
   code-7 report fits long is file prepared =
       left-refused 7 0 used journal answers report is
       ∙ sym (refused-7 file journal used limit answers (prepared .accepted) (let e = prepared .prepared .count in omega arith) long)
 
-  pub code-8 : (report : Report) → 9 * n ≤ length journal → used ≤ length journal → length answers < asked → report ≡ refused 8 0 used
+  pub code-8 : (report : Report) → 9 * n ≤ length journal → used ≤ length journal → length answers < asked → report ≡ refusal 8 0 used [] [] .report
       → Proceeds t n numbers asked journal used limit answers report journal answers
   unfolding recordBytes
   code-8 report fits inside short is file prepared =

@@ -20,7 +20,7 @@ use Rattle.infon.proofs.Cuts.{Reached, ran as goes-on}
 use Rattle.infon.proofs.Refusals.{Rule, refusal-given, refusal-only, accepted-exactly}
 use Rattle.infon.proofs.Demands as Demands
 use Rattle.infon.proofs.Demands.{hypothesesIn, queriesIn, queryAt, listIn, keptIn, leftIn}
-use Rattle.run.specs.Prepared.{left}
+use Rattle.run.specs.Prepared.{Workable, left, Works}
 
 -- the contract of `run`
 abbrev pub Ran : List ℕ → List ℕ → ℕ → ℕ → List ℕ → Report → List ℕ → List ℕ → Type 0
@@ -36,6 +36,16 @@ pub one-answer : (file journal : List ℕ) (used limit : ℕ) (answers : List �
 one-answer file journal used limit answers first second =
     let same = first ∙ sym second in
     (ap (λ (o : Outcome). o .report) same, (ap (λ (o : Outcome). o .journal) same, ap (λ (o : Outcome). o .answers) same))
+
+-- So does the work on a prepared list.
+pub works-once : {t : List ℕ} {n : ℕ} {numbers : List ℕ} {asked : ℕ} {journal : List ℕ} {used : ℕ} (limit : ℕ) {answers : List ℕ} {report other : Report}
+    {journalAfter answersAfter journalOther answersOther : List ℕ} → Workable t n numbers asked journal used answers
+    → Works t n numbers asked journal used limit answers report journalAfter answersAfter
+    → Works t n numbers asked journal used limit answers other journalOther answersOther
+    → left report journalAfter answersAfter ≡ left other journalOther answersOther
+works-once limit able first second =
+    let prepared = able .prepared in
+    first (able .hyps) (able .fs) (able .queries) prepared ∙ sym (second (able .hyps) (able .fs) (able .queries) prepared)
 
 module _ (file journal : List ℕ) (used limit : ℕ) (answers : List ℕ) (report : Report) (journalAfter answersAfter : List ℕ)
     (ran : Ran file journal used limit answers report journalAfter answersAfter) where

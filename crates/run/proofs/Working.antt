@@ -2,25 +2,22 @@
 -- Assumes nothing.
 use Prim.Native.Nat.{ℕ, _+_, _*_, _/_, _≤_, _<_}
 use native.Mathlib.Omega.{arith}
-use mathlib.Core.Path.{_≡_, refl, sym, _∙_, ap, subst}
-use mathlib.Core.Bool.{Bool}
+use mathlib.Core.Path.{_≡_, sym, _∙_, ap, subst}
 use mathlib.Core.List.{List, [], _++_, map}
-use lib.ListN.{length, take, getD, replicate, length-replicate, length-append}
+use lib.ListN.{length, take, getD, replicate, length-replicate}
 use lib.Seq.{getD-take}
-use Rattle.infon.specs.declared.Record.{Record}
-use Rattle.infon.specs.declared.Report.{Report}
 use Rattle.infon.specs.Formula.{Formula, True}
-use Rattle.infon.specs.Journal.{recordBytes, wholeRecords, spelledAll, keptOf, grown, isFinished}
-use Rattle.infon.specs.Run.{Outcome, written, success, answerByte, answersOf}
+use Rattle.infon.specs.Journal.{recordBytes, wholeRecords, spelledAll, keptOf, grown}
+use Rattle.infon.specs.Run.{written, success}
 use Rattle.infon.proofs.Rows.{getD-map}
 use Rattle.infon.proofs.Listed.{numbered-mem}
-use Rattle.infon.proofs.Grown.{kept-good, grown-good, good-append}
-use Rattle.infon.proofs.Missing.{row-short}
+use Rattle.infon.proofs.Grown.{kept-good}
+use Rattle.infon.proofs.Missing.{grown-short}
 use Rattle.infon.specs.Rules.{numbered}
-use Rattle.table.specs.Table.{numberIn, Tabled, tableRows, tableColumns}
+use Rattle.table.specs.Table.{numberIn, tableRows, tableColumns}
 use Rattle.table.specs.Tests.{Held}
 use Rattle.table.proofs.Numbers.{numberIn-below}
-use Rattle.journal.specs.Kept.{keptIn, markAll, Keeps}
+use Rattle.journal.specs.Kept.{Keeps}
 use Rattle.journal.proofs.Holding.{held-zeros, kept-of, kept-held}
 use Rattle.links.specs.Chains.{linkedIn, Ready}
 use Rattle.links.proofs.Linked.{linked-ready, bottoms-below}
@@ -28,7 +25,7 @@ use Rattle.growth.specs.declared.Growth.{Growth}
 use Rattle.growth.specs.Grown.{Roomy, Grows}
 use Rattle.growth.proofs.Joined.{room, added-is, finished-is, marks-hold, journal-is}
 use Rattle.answers.specs.Answered.{Answerable, answeredBytes}
-use Rattle.run.specs.Prepared.{Prepared, Workable, left, Works}
+use Rattle.run.specs.Prepared.{Prepared, left}
 use Rattle.run.proofs.Answering.{answered}
 
 module _ (hyps fs queries : List Formula) (t : List ℕ) (n : ℕ) (numbers : List ℕ) (asked : ℕ)
@@ -78,12 +75,7 @@ module _ (hyps fs queries : List Formula) (t : List ℕ) (n : ℕ) (numbers : Li
       unfolding keptOf tableRows
       all-few =
           let done = keptOf hyps fs journal used in
-          let more = grown hyps fs done limit in
-          let row =
-          row-short hyps fs (done ++ more)
-          (good-append hyps fs [] done more (kept-good hyps fs [] (wholeRecords (used / recordBytes) journal))
-          (grown-good hyps fs done limit)) in
-          let size = length-append done more in
+          let row = grown-short hyps fs done (kept-good hyps fs [] (wholeRecords (used / recordBytes) journal)) limit in
           let count = kept-is in
           let added = added-is hyps fs t n done marks holds-kept limit journal kept growth marksAfter journalAfter grows in
           let short = prepared .table .few in

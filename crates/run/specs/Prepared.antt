@@ -1,13 +1,12 @@
 -- What a run works on, and what it leaves.
 use Prim.Native.Nat.{ℕ, _*_, _≤_}
 use mathlib.Core.Path.{_≡_}
-use mathlib.Core.Bool.{true, false}
+use mathlib.Core.Bool.{true}
 use mathlib.Core.List.{List, map, List·Memᴰ}
 use lib.ListN.{length, take}
 use Rattle.infon.specs.declared.Report.{Report}
 use Rattle.infon.specs.Formula.{Formula}
-use Rattle.infon.specs.Policy.{entriesOf, hypothesesOf, queriesOf, Verdict, passed}
-use Rattle.infon.specs.Policy.{refused as refused·}
+use Rattle.infon.specs.Policy.{entriesOf, hypothesesOf, queriesOf, Verdict, passed, refused}
 use Rattle.infon.specs.Listing.{isListed, listOf}
 use Rattle.infon.specs.Journal.{recordBytes, keptOf, grown}
 use Rattle.infon.specs.Run.{fileVerdict, Outcome, success, run}
@@ -45,10 +44,6 @@ Works t n numbers asked journal used limit answers report journalAfter answersAf
     → left report journalAfter answersAfter
     ≡ success hyps fs queries (keptOf hyps fs journal used) (grown hyps fs (keptOf hyps fs journal used) limit) journal answers
 
--- "A refusal returns its code and place, kept 0, added 0, not finished, and the used length as it was given."
-unfoldable pub refused : ℕ → ℕ → ℕ → Report
-refused code place used = record { code = code; place = place; kept = 0; added = 0; finished = false; used = used }
-
 -- The file is accepted, and its list and queries are prepared so.
 pub record PreparedFor (file t : List ℕ) (n : ℕ) (numbers : List ℕ) (asked : ℕ) : Type 0 where
   pub accepted : fileVerdict file ≡ passed
@@ -69,4 +64,4 @@ abbrev pub Accepts : Verdict → List ℕ → List ℕ → List ℕ → Stage �
 Accepts passed file t numbers stage =
     (stage ≡ StageCase.Prepared (length (listOf (entriesOf file))) (length (queriesOf (entriesOf file))))
     × PreparedFor file t (length (listOf (entriesOf file))) numbers (length (queriesOf (entriesOf file)))
-Accepts (refused· code place) file t numbers stage = stage ≡ StageCase.Refused code place
+Accepts (refused code place) file t numbers stage = stage ≡ StageCase.Refused code place

@@ -8,10 +8,12 @@ use policy::Verdict;
 use work::work;
 ghost use mathlib.Core.Path.{_≡_};
 ghost use Prim.Native.Nat.{_≤_};
+ghost use mathlib.Core.List.{[]};
 ghost use lib.ListN.{length};
 ghost use Rattle.infon.specs.Run.{fileVerdict};
+ghost use Rattle.infon.specs.Run.{refusal as refusedBy};
 ghost use Rattle.infon.specs.Run.{run as ranOn};
-ghost use Rattle.run.specs.Prepared.{left, refused, Acceptable, Proceeds, Accepts};
+ghost use Rattle.run.specs.Prepared.{left, Acceptable, Proceeds, Accepts};
 
 // What comes of the file alone: the size of its list and the number of its queries, or the code that refuses it.
 pub enum Stage {
@@ -46,7 +48,7 @@ fn accept(file: &[u8], table: &mut [u16], queries: &mut [u16]) -> Stage
 
 // A refusal returns its code and place, kept 0, added 0, not finished, and the used length as it was given.
 fn refusal(code: usize, place: usize, used: usize) -> Report
-    ensures { λ r. ⌜ r ≡ refused code place used ⌝ }
+    ensures { λ r. ⌜ r ≡ refusedBy code place used [] [] .report ⌝ }
 {
     Report {
         code,

@@ -1,9 +1,9 @@
 -- The first of a row that passes a test: rows made of parts, of images, of numbers and of pairs of numbers.
 -- Assumes nothing.
 use Prim.Native.Nat.{ℕ, zero, suc, _+_, _≤_, _<_}
-use mathlib.Core.Path.{_≡_, refl, sym, _∙_, ap, subst}
+use mathlib.Core.Path.{_≡_, refl, sym, _∙_, ap}
 use mathlib.Core.Logic.{⊎-elim}
-use mathlib.Core.Bool.{Bool, true, false, cond}
+use mathlib.Core.Bool.{Bool, true, false}
 use mathlib.Core.Option.{Option, none, some}
 use mathlib.Core.List.{List, [], _∷_, _++_, map}
 use native.Mathlib.Nat.{eq-or-lt-of-le}
@@ -12,29 +12,17 @@ use Rattle.infon.specs.declared.Way.{Way}
 use Rattle.infon.specs.Bytes.{firstOf}
 use Rattle.infon.specs.Journal.{numbersFrom, eachPair}
 use Rattle.infon.proofs.Rows.{decided}
+use Rattle.infon.proofs.Ascending.{first-passed, first-failed}
 use Rattle.ways.specs.Search.{numberOr, leastBelow, pairsOf}
 
--- what does not pass fails
-pub not-passed : (b : Bool) → (b ≡ true → ⊥) → b ≡ false
-not-passed true h = absurd (h refl)
-not-passed false h = refl
-
 module _ {A : Type 0} where
-  pub passes : (test : A → Bool) (x : A) (xs : List A) → test x ≡ true → firstOf test (x ∷ xs) ≡ some x
-  unfolding firstOf
-  passes test x xs h = rw h
-
-  pub fails : (test : A → Bool) (x : A) (xs : List A) → test x ≡ false → firstOf test (x ∷ xs) ≡ firstOf test xs
-  unfolding firstOf
-  fails test x xs h = rw h
-
   pub nothing : (test : A → Bool) → firstOf test [] ≡ none
   unfolding firstOf
   nothing test = refl
 
   pub all-fail : (test : A → Bool) (xs : List A) → ((x : A) → test x ≡ false) → firstOf test xs ≡ none
   all-fail test [] h = nothing test
-  all-fail test (x ∷ xs) h = fails test x xs (h x) ∙ all-fail test xs h
+  all-fail test (x ∷ xs) h = first-failed test x xs (h x) ∙ all-fail test xs h
 
   pub alike-first : (test other : A → Bool) (xs : List A) → ((x : A) → test x ≡ other x) → firstOf test xs ≡ firstOf other xs
   unfolding firstOf
@@ -45,16 +33,16 @@ module _ {A : Type 0} where
   append-found test [] ys h = absurd (let z : _≡_ {A = ℕ} 0 1 = cc (nothing test) in omega arith)
   append-found test (y ∷ xs) ys {x} h =
       ⊎-elim
-      (λ (p : test y ≡ true). passes test y (xs ++ ys) p ∙ (sym (passes test y xs p) ∙ h))
-      (λ (p : test y ≡ false). fails test y (xs ++ ys) p ∙ append-found test xs ys (sym (fails test y xs p) ∙ h))
+      (λ (p : test y ≡ true). first-passed test y (xs ++ ys) p ∙ (sym (first-passed test y xs p) ∙ h))
+      (λ (p : test y ≡ false). first-failed test y (xs ++ ys) p ∙ append-found test xs ys (sym (first-failed test y xs p) ∙ h))
       (decided (test y))
 
   pub append-none : (test : A → Bool) (xs ys : List A) → firstOf test xs ≡ none → firstOf test (xs ++ ys) ≡ firstOf test ys
   append-none test [] ys h = refl
   append-none test (y ∷ xs) ys h =
       ⊎-elim
-      (λ (p : test y ≡ true). absurd (let z : _≡_ {A = ℕ} 0 1 = cc (passes test y xs p) in omega arith))
-      (λ (p : test y ≡ false). fails test y (xs ++ ys) p ∙ append-none test xs ys (sym (fails test y xs p) ∙ h))
+      (λ (p : test y ≡ true). absurd (let z : _≡_ {A = ℕ} 0 1 = cc (first-passed test y xs p) in omega arith))
+      (λ (p : test y ≡ false). first-failed test y (xs ++ ys) p ∙ append-none test xs ys (sym (first-failed test y xs p) ∙ h))
       (decided (test y))
 
 module _ {A B : Type 0} (test : B → Bool) (f : A → B) where
@@ -63,11 +51,11 @@ module _ {A B : Type 0} (test : B → Bool) (f : A → B) where
   map-found (y ∷ xs) {x} h =
       ⊎-elim
       (λ (p : test (f y) ≡ true).
-      let e : _≡_ {A = Option A} (some y) (some x) = sym (passes (λ (z : A). test (f z)) y xs p) ∙ h in
+      let e : _≡_ {A = Option A} (some y) (some x) = sym (first-passed (λ (z : A). test (f z)) y xs p) ∙ h in
       let same : y ≡ x = cc in
-      passes test (f y) (map f xs) p ∙ ap (λ (z : A). some (f z)) same)
+      first-passed test (f y) (map f xs) p ∙ ap (λ (z : A). some (f z)) same)
       (λ (p : test (f y) ≡ false).
-      fails test (f y) (map f xs) p ∙ map-found xs (sym (fails (λ (z : A). test (f z)) y xs p) ∙ h))
+      first-failed test (f y) (map f xs) p ∙ map-found xs (sym (first-failed (λ (z : A). test (f z)) y xs p) ∙ h))
       (decided (test (f y)))
 
   pub map-none : (xs : List A) → firstOf (λ (y : A). test (f y)) xs ≡ none → firstOf test (map f xs) ≡ none
@@ -75,9 +63,9 @@ module _ {A B : Type 0} (test : B → Bool) (f : A → B) where
   map-none (y ∷ xs) h =
       ⊎-elim
       (λ (p : test (f y) ≡ true).
-      absurd (let z : _≡_ {A = ℕ} 0 1 = cc (passes (λ (z : A). test (f z)) y xs p) in omega arith))
+      absurd (let z : _≡_ {A = ℕ} 0 1 = cc (first-passed (λ (z : A). test (f z)) y xs p) in omega arith))
       (λ (p : test (f y) ≡ false).
-      fails test (f y) (map f xs) p ∙ map-none xs (sym (fails (λ (z : A). test (f z)) y xs p) ∙ h))
+      first-failed test (f y) (map f xs) p ∙ map-none xs (sym (first-failed (λ (z : A). test (f z)) y xs p) ∙ h))
       (decided (test (f y)))
 
 -- the numbers from i on
@@ -89,9 +77,9 @@ module _ (test : ℕ → Bool) where
   number-found i (suc k) p low high h before =
       ⊎-elim
       (λ (e : i ≡ p).
-      passes test i (numbersFrom (suc i) k) (ap test e ∙ h) ∙ ap (λ (q : ℕ). some q) e)
+      first-passed test i (numbersFrom (suc i) k) (ap test e ∙ h) ∙ ap (λ (q : ℕ). some q) e)
       (λ (less : i < p).
-      fails test i (numbersFrom (suc i) k) (before i (omega arith) less)
+      first-failed test i (numbersFrom (suc i) k) (before i (omega arith) less)
       ∙ number-found (suc i) k p less (omega arith) h (λ q from until. before q (omega arith) until))
       (eq-or-lt-of-le low)
 
@@ -99,7 +87,7 @@ module _ (test : ℕ → Bool) where
   unfolding numbersFrom
   number-none i zero h = nothing test
   number-none i (suc k) h =
-      fails test i (numbersFrom (suc i) k) (h i (omega arith) (omega arith))
+      first-failed test i (numbersFrom (suc i) k) (h i (omega arith) (omega arith))
       ∙ number-none (suc i) k (λ q from until. h q (omega arith) (omega arith))
 
   number-inside : (i k p : ℕ) → firstOf test (numbersFrom i k) ≡ some p → p < i + k
@@ -108,11 +96,11 @@ module _ (test : ℕ → Bool) where
   number-inside i (suc k) p h =
       ⊎-elim
       (λ (t : test i ≡ true).
-      let e : _≡_ {A = Option ℕ} (some i) (some p) = sym (passes test i (numbersFrom (suc i) k) t) ∙ h in
+      let e : _≡_ {A = Option ℕ} (some i) (some p) = sym (first-passed test i (numbersFrom (suc i) k) t) ∙ h in
       let same : i ≡ p = cc in
       omega arith)
       (λ (t : test i ≡ false).
-      let later = number-inside (suc i) k p (sym (fails test i (numbersFrom (suc i) k) t) ∙ h) in
+      let later = number-inside (suc i) k p (sym (first-failed test i (numbersFrom (suc i) k) t) ∙ h) in
       omega arith)
       (decided (test i))
 

@@ -1,24 +1,23 @@
 -- When a way leads to a formula, said of the cells and the marks; and the walks along a chain.
 -- Assumes nothing.
-use Prim.Native.Nat.{ℕ, zero, suc, _+_, _-_, _≤_, _<_}
-use mathlib.Core.Path.{_≡_, refl, sym, _∙_, ap, subst}
-use mathlib.Core.Logic.{_⊎_, inl, inr, ⊎-elim}
-use mathlib.Core.Bool.{Bool, true, false, cond, _&&_, false≢true}
+use Prim.Native.Nat.{ℕ, suc, _+_, _≤_, _<_}
+use mathlib.Core.Path.{_≡_, refl, sym, _∙_, subst}
+use mathlib.Core.Logic.{⊎-elim}
+use mathlib.Core.Bool.{Bool, true, false, _&&_}
 use mathlib.Core.List.{List}
 use native.Mathlib.Nat.{eq-or-lt-of-le}
 use native.Mathlib.Omega.{arith}
 use lib.ListN.{getD}
 use lib.Dec.{ltb, eqb}
 use lib.Bits.{bitAnd}
-use borrow.Author.Tests.{eqb-true, eq-eqb, ne-eqb, ltb-true, ltb-false}
-use Rattle.infon.specs.declared.Way.the-variants.{Weaken, Left, Right, Both, Apply, Attach}
-use Rattle.infon.proofs.Rows.{and-true, true-and, decided}
+use borrow.Author.Tests.{eqb-true, eq-eqb, ltb-true, ltb-false}
+use Rattle.infon.specs.declared.Way.the-variants.{Weaken, Both, Apply, Attach}
+use Rattle.infon.proofs.Rows.{and-true, true-and, decided, not-true-false}
 use Rattle.table.specs.Table.{cell}
 use Rattle.table.specs.Tests.{givesIn, isMarked, premisesMarked, leadsTo}
-use Rattle.table.proofs.Given.{marked-below}
 use Rattle.links.specs.Chains.{FirstFrom, ChainOf}
-use Rattle.ways.specs.Search.{leastBelow, leastPremise, isWhole, leastWhole, conditionIn}
-use Rattle.ways.proofs.Firsts.{not-passed, found-least, none-least}
+use Rattle.ways.specs.Search.{leastBelow, isWhole}
+use Rattle.ways.proofs.Firsts.{found-least, none-least}
 
 -- tests that fail by their first or their second part
 fails-first : {r a : Bool} (b : Bool) → r ≡ a → r ≡ false → a && b ≡ false
@@ -147,7 +146,7 @@ module _ (test : ℕ → Bool) (t : List ℕ) (column x n : ℕ) (only : (q : �
   pub walk-begins : (p : ℕ) → FirstFrom t column x n 0 p → Walked test t column x n p
   walk-begins p first =
       record {
-        passed = λ q less inside. not-passed (test q) (λ h. first .between q (omega arith) less inside (only q h));
+        passed = λ q less inside. not-true-false (test q) (λ h. first .between q (omega arith) less inside (only q h));
         here = λ h. first .here h .1;
       }
 
@@ -162,7 +161,7 @@ module _ (test : ℕ → Bool) (t : List ℕ) (column x n : ℕ) (only : (q : �
             (λ (later : ltb q p ≡ false).
             ⊎-elim
             (λ (same : p ≡ q). subst (λ (r : ℕ). test r ≡ false) same failed)
-            (λ (more : p < q). not-passed (test q) (λ e. first .between q more less inside (only q e)))
+            (λ (more : p < q). not-true-false (test q) (λ e. first .between q more less inside (only q e)))
             (eq-or-lt-of-le (ltb-false q p later)))
             (decided (ltb q p));
         here = λ inside. first .here inside .1;

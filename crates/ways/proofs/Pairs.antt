@@ -1,6 +1,6 @@
 -- Rules 6, 7 and 8: the least way of each, a law for each branch of the code.
 -- Assumes nothing.
-use Prim.Native.Nat.{ℕ, zero, suc, _+_, _-_, _≤_, _<_}
+use Prim.Native.Nat.{ℕ, suc, _+_, _≤_, _<_}
 use mathlib.Core.Path.{_≡_, refl, sym, _∙_, ap, subst}
 use mathlib.Core.Logic.{_⊎_, inl, inr, ⊎-elim}
 use mathlib.Core.Bool.{Bool, true, false, cond, _&&_, false≢true}
@@ -15,15 +15,15 @@ use Rattle.infon.specs.declared.Way.{Way}
 use Rattle.infon.specs.declared.Way.the-variants.{Both, Apply, Attach}
 use Rattle.infon.specs.Bytes.{firstOf}
 use Rattle.infon.specs.Journal.{numbersFrom}
-use Rattle.infon.proofs.Rows.{and-true, true-and, decided}
+use Rattle.infon.proofs.Rows.{and-true, true-and, decided, not-true-false}
 use Rattle.table.specs.Table.{cell}
 use Rattle.table.specs.Tests.{isMarked, leadsTo}
 use Rattle.table.proofs.Given.{marked-below}
 use Rattle.links.specs.Chains.{FirstFrom, ChainOf}
 use Rattle.ways.specs.declared.Least.the-variants.{By, Missing}
 use Rattle.ways.specs.Search.{leastOf, leastAmong, pairsOf, conditionIn}
-use Rattle.ways.proofs.Firsts.{not-passed, pair-found, pair-none, map-found, map-none, found-first, none-first}
-use Rattle.ways.proofs.Leads.{Parts, both-parts, both-leads, apply-parts, apply-leads, attach-parts, attach-leads, goes-on, chain-step}
+use Rattle.ways.proofs.Firsts.{pair-found, pair-none, map-found, map-none, found-first, none-first}
+use Rattle.ways.proofs.Leads.{Parts, both-parts, both-leads, apply-parts, apply-leads, attach-parts, attach-leads, goes-on}
 
 pub found-among : (ways : List Way) (t : List ℕ) (n : ℕ) (marks : List ℕ) (f : ℕ) {way : Way}
     → firstOf (leadsTo t n marks f) ways ≡ some way → By way ≡ leastAmong ways t n marks f
@@ -66,9 +66,9 @@ module _ (t : List ℕ) (n : ℕ) (marks : List ℕ) (f : ℕ) where
       found-among (pairsOf Both n) t n marks f
       (pair-found (leadsTo t n marks f) Both n left right (marked-below n marks left (marked .0))
       (marked-below n marks right (marked .1)) (both-leads t n marks f left right parts)
-      (λ p q less. not-passed (leadsTo t n marks f (Both p q)) (λ h. let e = both-parts t n marks f p q h .left-is in omega arith))
+      (λ p q less. not-true-false (leadsTo t n marks f (Both p q)) (λ h. let e = both-parts t n marks f p q h .left-is in omega arith))
       (λ q less.
-      not-passed (leadsTo t n marks f (Both left q)) (λ h. let e = both-parts t n marks f left q h .right-is in omega arith)))
+      not-true-false (leadsTo t n marks f (Both left q)) (λ h. let e = both-parts t n marks f left q h .right-is in omega arith)))
 
   pub both-unmarked : {left right : ℕ} {r : Bool} → left ≡ cell t 2 f → right ≡ cell t 3 f
       → r ≡ isMarked n marks left && isMarked n marks right → r ≡ false → Missing ≡ leastAmong (pairsOf Both n) t n marks f
@@ -76,7 +76,7 @@ module _ (t : List ℕ) (n : ℕ) (marks : List ℕ) (f : ℕ) where
       none-among (pairsOf Both n) t n marks f
       (pair-none (leadsTo t n marks f) Both n
       (λ p q.
-      not-passed (leadsTo t n marks f (Both p q))
+      not-true-false (leadsTo t n marks f (Both p q))
       (λ h.
       let parts = both-parts t n marks f p q h in
       unmarked-two n marks left right tested failed
@@ -87,7 +87,7 @@ module _ (t : List ℕ) (n : ℕ) (marks : List ℕ) (f : ℕ) where
   both-other k two =
       none-among (pairsOf Both n) t n marks f
       (pair-none (leadsTo t n marks f) Both n
-      (λ p q. not-passed (leadsTo t n marks f (Both p q)) (λ h. other-kind k two (both-parts t n marks f p q h .is-kind))))
+      (λ p q. not-true-false (leadsTo t n marks f (Both p q)) (λ h. other-kind k two (both-parts t n marks f p q h .is-kind))))
 
   -- rule 8
   pub attach-found : {kind p : ℕ} {r : Bool} → kind ≡ cell t 0 f → kind ≡ 3 → p ≡ cell t 3 f → r ≡ isMarked n marks p → r ≡ true
@@ -99,7 +99,7 @@ module _ (t : List ℕ) (n : ℕ) (marks : List ℕ) (f : ℕ) where
       (found-first (λ (q : ℕ). leadsTo t n marks f (Attach q)) n p (marked-below n marks p marked)
       (attach-leads t n marks f p marked (sym k ∙ three) (sym right))
       (λ q less.
-      not-passed (leadsTo t n marks f (Attach q)) (λ h. let e = attach-parts t n marks f q h .1 .1 in omega arith))))
+      not-true-false (leadsTo t n marks f (Attach q)) (λ h. let e = attach-parts t n marks f q h .1 .1 in omega arith))))
 
   pub attach-unmarked : {p : ℕ} {r : Bool} → p ≡ cell t 3 f → r ≡ isMarked n marks p → r ≡ false
       → Missing ≡ leastAmong (map Attach (numbersFrom 0 n)) t n marks f
@@ -108,7 +108,7 @@ module _ (t : List ℕ) (n : ℕ) (marks : List ℕ) (f : ℕ) where
       (map-none (leadsTo t n marks f) Attach (numbersFrom 0 n)
       (none-first (λ (q : ℕ). leadsTo t n marks f (Attach q)) n
       (λ q less.
-      not-passed (leadsTo t n marks f (Attach q))
+      not-true-false (leadsTo t n marks f (Attach q))
       (λ h.
       let parts = attach-parts t n marks f q h in
       false≢true
@@ -122,7 +122,7 @@ module _ (t : List ℕ) (n : ℕ) (marks : List ℕ) (f : ℕ) where
       (map-none (leadsTo t n marks f) Attach (numbersFrom 0 n)
       (none-first (λ (q : ℕ). leadsTo t n marks f (Attach q)) n
       (λ q less.
-      not-passed (leadsTo t n marks f (Attach q)) (λ h. other-kind k three (attach-parts t n marks f q h .1 .0)))))
+      not-true-false (leadsTo t n marks f (Attach q)) (λ h. other-kind k three (attach-parts t n marks f q h .1 .0)))))
 
 -- the condition that rule 7 finds at an implication
 module _ (t : List ℕ) (n : ℕ) (marks : List ℕ) (q : ℕ) where
@@ -278,13 +278,13 @@ module _ (t : List ℕ) (n : ℕ) (marks : List ℕ) (f : ℕ) where
       found-among (pairsOf Apply n) t n marks f
       (pair-found (leadsTo t n marks f) Apply n first second less (second-inside first second good) good
       (λ p′ q′ below.
-      not-passed (leadsTo t n marks f (Apply p′ q′))
+      not-true-false (leadsTo t n marks f (Apply p′ q′))
       (λ h.
       let inside = second-inside p′ q′ h in
       ⊎-elim (λ (l : first < p′). omega arith) (λ (s : (first ≡ p′) × (second ≤ q′)). omega arith)
       (best .least p′ q′ (omega arith) h)))
       (λ q′ below.
-      not-passed (leadsTo t n marks f (Apply first q′))
+      not-true-false (leadsTo t n marks f (Apply first q′))
       (λ h.
       let inside = second-inside first q′ h in
       ⊎-elim (λ (l : first < first). omega arith) (λ (s : (first ≡ first) × (second ≤ q′)). omega arith)
@@ -296,7 +296,7 @@ module _ (t : List ℕ) (n : ℕ) (marks : List ℕ) (f : ℕ) where
       none-among (pairsOf Apply n) t n marks f
       (pair-none (leadsTo t n marks f) Apply n
       (λ p′ q′.
-      not-passed (leadsTo t n marks f (Apply p′ q′))
+      not-true-false (leadsTo t n marks f (Apply p′ q′))
       (λ h.
       let inside = second-inside p′ q′ h in
       let below = first-inside p′ q′ h in

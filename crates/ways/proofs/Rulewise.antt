@@ -1,6 +1,6 @@
 -- The least way to a formula, rule by rule.
 -- Assumes nothing.
-use Prim.Native.Nat.{ℕ, _+_, _-_, _≤_, _<_}
+use Prim.Native.Nat.{ℕ, _≤_, _<_}
 use mathlib.Core.Path.{_≡_, refl, sym, _∙_, ap}
 use mathlib.Core.Bool.{Bool, true, false, _&&_, not}
 use mathlib.Core.Option.{Option, none, some}
@@ -12,12 +12,13 @@ use Rattle.infon.specs.declared.Way.{Way}
 use Rattle.infon.specs.declared.Way.the-variants.{Hypothesis, Given, Weaken, Left, Right, Both, Apply, Attach}
 use Rattle.infon.specs.Bytes.{firstOf}
 use Rattle.infon.specs.Journal.{numbersFrom, allWays}
+use Rattle.infon.proofs.Ascending.{first-passed, first-failed}
 use Rattle.table.specs.Table.{cell}
 use Rattle.table.specs.Tests.{givesIn, isMarked, premisesMarked, leadsTo, goodIn}
 use Rattle.ways.specs.declared.Least.{Least}
 use Rattle.ways.specs.declared.Least.the-variants.{By, Missing}
 use Rattle.ways.specs.Search.{leastPremise, isWhole, leastWhole, leastOf, leastAmong, pairsOf, lastWays, leastWayIn, dueWayIn}
-use Rattle.ways.proofs.Firsts.{passes, fails, all-fail, alike-first, append-found, append-none, map-found, map-none, least-first, least-none}
+use Rattle.ways.proofs.Firsts.{all-fail, alike-first, append-found, append-none, map-found, map-none, least-first, least-none}
 use Rattle.ways.proofs.Pairs.{found-among}
 
 -- what an answer says of the search behind it
@@ -118,7 +119,7 @@ module _ (t : List ℕ) (n : ℕ) (marks : List ℕ) (f : ℕ) where
   unfolding leastWayIn allWays
   by-hypothesis e h =
       found-among (allWays (numbersFrom 0 n)) t n marks f
-      (passes (leadsTo t n marks f) Hypothesis _ (hypothesis-leads ∙ eq-eqb (cell t 5 f) 1 (sym e ∙ h)))
+      (first-passed (leadsTo t n marks f) Hypothesis _ (hypothesis-leads ∙ eq-eqb (cell t 5 f) 1 (sym e ∙ h)))
 
   -- the first two rules do not lead to f
   pub record NotAtOnce : Type 0 where
@@ -130,8 +131,8 @@ module _ (t : List ℕ) (n : ℕ) (marks : List ℕ) (f : ℕ) where
   unfolding leastWayIn allWays
   by-given e h d k =
       found-among (allWays (numbersFrom 0 n)) t n marks f
-      (fails (leadsTo t n marks f) Hypothesis _ (hypothesis-leads ∙ ne-eqb (cell t 5 f) 1 (λ same. h (e ∙ same)))
-      ∙ passes (leadsTo t n marks f) Given _ (given-leads ∙ eq-eqb (cell t 0 f) 0 (sym d ∙ k)))
+      (first-failed (leadsTo t n marks f) Hypothesis _ (hypothesis-leads ∙ ne-eqb (cell t 5 f) 1 (λ same. h (e ∙ same)))
+      ∙ first-passed (leadsTo t n marks f) Given _ (given-leads ∙ eq-eqb (cell t 0 f) 0 (sym d ∙ k)))
 
   pub not-at-once : {hyp kind : ℕ} → hyp ≡ cell t 5 f → (hyp ≡ 1 → ⊥) → kind ≡ cell t 0 f → (kind ≡ 0 → ⊥) → NotAtOnce
   not-at-once e h d k =
@@ -144,8 +145,8 @@ module _ (t : List ℕ) (n : ℕ) (marks : List ℕ) (f : ℕ) where
   unfolding leastWayIn leastAmong allWays lastWays pairsOf
   later not other =
       let past =
-      fails (leadsTo t n marks f) Hypothesis (Given ∷ after-three) (not .hyp)
-      ∙ fails (leadsTo t n marks f) Given after-three (not .truth) in
+      first-failed (leadsTo t n marks f) Hypothesis (Given ∷ after-three) (not .hyp)
+      ∙ first-failed (leadsTo t n marks f) Given after-three (not .truth) in
       rw past other
 
   pub by-weaken : {p : ℕ} → NotAtOnce → p ≡ leastPremise Weaken t n marks f → p < n → By (Weaken p) ≡ leastWayIn t n marks f

@@ -3,14 +3,14 @@ use Prim.Native.Nat.{ℕ}
 use mathlib.Core.Bool.{Bool, cond, _&&_}
 use mathlib.Core.Option.{Option, none, some}
 use mathlib.Core.List.{List, _++_, map}
-use lib.Dec.{ltb, eqb}
+use lib.Dec.{eqb}
 use Rattle.infon.specs.declared.Way.{Way}
 use Rattle.infon.specs.declared.Way.the-variants.{Both, Apply, Attach}
 use Rattle.infon.specs.declared.Record.{Record}
 use Rattle.infon.specs.Bytes.{firstOf}
 use Rattle.infon.specs.Journal.{numbersFrom, eachPair, allWays, allRecords}
 use Rattle.table.specs.Table.{cell}
-use Rattle.table.specs.Tests.{kindAt, leftAt, rightAt, isMarked, leadsTo, goodIn}
+use Rattle.table.specs.Tests.{kindAt, leftAt, isMarked, leadsTo, goodIn}
 use Rattle.ways.specs.declared.Least.{Least}
 use Rattle.ways.specs.declared.Least.the-variants.{By, Missing}
 

@@ -1,6 +1,6 @@
 -- `answers::answer_at` meets its contract: the byte of the answer, by the mark.
 -- Assumes nothing.
-use mathlib.Core.Path.{_≡_, _∙_, ap}
+use mathlib.Core.Path.{_∙_, ap}
 use Rattle.infon.specs.Run.{answerByte}
 use Rattle.answers.specs.Answered.{answerAt}
 use borrow.Author.Needs.{needs}

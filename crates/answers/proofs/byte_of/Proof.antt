@@ -1,6 +1,6 @@
 -- `answers::byte_of` meets its contract: each arm is one case of the definition.
 -- Assumes nothing.
-use mathlib.Core.Path.{_≡_, refl, sym, _∙_, ap}
+use mathlib.Core.Path.{sym, ap}
 use Rattle.infon.specs.Run.{answerByte}
 use borrow.Author.Needs.{needs}
 use Rattle.answers.proofs.byte_of.Statement.{statement}

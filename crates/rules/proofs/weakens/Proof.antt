@@ -1,6 +1,6 @@
 -- `rules::weakens` meets its contract: the bottoms are compared, and the put places.
 -- Assumes nothing.
-use mathlib.Core.Path.{sym, _∙_, ap₂}
+use mathlib.Core.Path.{sym, _∙_}
 use borrow.Author.Needs.{needs}
 use borrow.Author.Tests.{eq-eqb, ne-eqb}
 use Rattle.table.specs.Tests.{givesIn}

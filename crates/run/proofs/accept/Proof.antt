@@ -3,7 +3,6 @@
 use Prim.Native.Nat.{ℕ}
 use lib.ListN.{length-replicate}
 use Rattle.run.proofs.Accepting.{refused-first, first-passed, second-passed, third-passed, deep-asks, refused-fourth, list-asks, accepted, refused-fifth}
-use native.Mathlib.Omega.{arith}
 use borrow.Author.Needs.{needs}
 use Rattle.run.proofs.accept.Statement.{statement}
 use Rattle.run.proofs.accept.Tie as tie

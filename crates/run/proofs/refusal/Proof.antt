@@ -1,12 +1,12 @@
 -- `run::refusal` meets its contract: it is the definition, field by field.
 -- Assumes nothing.
-use Rattle.run.specs.Prepared.{refused}
+use Rattle.infon.specs.Run.{refusal}
 use borrow.Author.Needs.{needs}
 use Rattle.run.proofs.refusal.Statement.{statement}
 use Rattle.run.proofs.refusal.Tie as tie
 
 returns : tie.Need-returns
-unfolding refused
+unfolding refusal
 returns c = search needs
 
 pub refusal-spec : {M : Type 1} → statement M

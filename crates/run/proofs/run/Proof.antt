@@ -1,7 +1,6 @@
 -- `run::run` meets its contract: a refusal of the file, or what comes of the list that is prepared.
 -- Assumes nothing.
 use Rattle.run.proofs.Accepting.{prepared-for, file-refuses}
-use native.Mathlib.Omega.{arith}
 use borrow.Author.Needs.{needs}
 use Rattle.run.proofs.run.Statement.{statement}
 use Rattle.run.proofs.run.Tie as tie

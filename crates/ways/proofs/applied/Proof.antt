@@ -1,7 +1,6 @@
 -- `ways::applied` meets its contract. The loop's invariant: the best pair of premises among those passed along the chain of f.
 -- Assumes nothing.
 use Prim.Native.Nat.{_-_, suc}
-use mathlib.Core.Path.{_≡_, refl, sym, _∙_}
 use mathlib.Core.Logic.{⊎-elim}
 use native.Mathlib.Omega.{arith}
 use Rattle.links.specs.Chains.{FirstFrom}

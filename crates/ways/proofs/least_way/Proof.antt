@@ -1,6 +1,5 @@
 -- `ways::least_way` meets its contract: rule by rule, the first that leads to f.
 -- Assumes nothing.
-use native.Mathlib.Omega.{arith}
 use borrow.Author.Needs.{needs}
 use Rattle.ways.proofs.Rulewise.{NotAtOnce, by-hypothesis, by-given, not-at-once, by-weaken, by-left, past-left, by-right, past-right}
 use Rattle.ways.proofs.least_way.Statement.{statement}
