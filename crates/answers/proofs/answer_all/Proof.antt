@@ -6,9 +6,6 @@ use borrow.Author.Needs.{needs}
 use native.Mathlib.Omega.{arith}
 use Rattle.answers.proofs.answer_all.Statement.{statement}
 use Rattle.answers.proofs.answer_all.Tie as tie
-use Rattle.answers.proofs.answer_all.Reads as reads
-use Rattle.answers.proofs.answer_all.Lts as lts
-use Rattle.answers.proofs.answer_at.Reads as answer-at-reads
 
 abbrev Inv-loop : tie.InvT-loop
 Inv-loop queries asked marks finished answers₀ i₀ answers i =

@@ -42,10 +42,11 @@ loop-less : tie.Need-loop-less Inv-loop μ-loop
 loop-less c = search needs
 
 loop-again : tie.Need-loop-again Inv-loop μ-loop
-loop-again c = (
-  omega (arith, c .before .before .before .before .loop-test .taken),
-  columns-turn _ _ _ _ _ _ (c .before .before .before .before .before .loop .column) _ _ (c .before .before .before .before .before .loop .inv .1) (c .before .before .fill-column .ensures),
-)
+loop-again c =
+    let s = c .before .before .before .before .before in (
+      omega (arith, c .before .before .before .before .loop-test .taken),
+      columns-turn _ _ _ _ _ _ (s .loop .column) _ _ (s .loop .inv .1) (c .before .before .fill-column .ensures),
+    )
 
 same-length : tie.Need-same-length Inv-loop μ-loop
 same-length c = size (c .before)

@@ -14,16 +14,17 @@ whole : (c : tie.After-counted2)
     → WholeList (c .before .before .before .before .before .before .before .before .before .before .before .before .before .args .file .now) (c .before .before .before .before .before .before .before .before .before .before .before .before .before .args .nodes .now) (c .before .before .before .before .before .before .before .before .before .before .before .before .before .args .count) (c .before .before .before .before .before .before .before .before .before .before .before .before .before .args .table .now) (c .before .before .before .before .before .before .before .before .before .before .before .before .before .args .queries .now)
     (c .before .before .before .before .before .list-nodes .last .1 .1 .1 .0) (c .before .before .before .before .before .list-nodes .last .1 .1 .1 .1 .0) (c .before .before .before .before .before .list-nodes .last .1 .1 .1 .1 .1 .0) (c .counted2 .given .0 .0)
 whole c =
+    let s = c .before .before .before .before .before .before .before .before .before .before .before .before .before in
     let tables = c .before .before .before .before .before in
     let cand = tables .list-nodes .last .1 .1 .1 .0 in
     let keys = tables .list-nodes .last .1 .1 .1 .1 .0 in
     let owners = tables .list-nodes .last .1 .1 .1 .1 .1 .0 in
     record {
-      ready = c .before .before .before .before .before .before .before .before .before .before .before .before .before .pre;
+      ready = s .pre;
       cand-long = still-long 16384 cand (tables .list-nodes .kept .1 .1 .1 .0);
       keys-long = omega (arith, still-long 4112 keys (tables .list-nodes .kept .1 .1 .1 .1 .0));
       owners-long = omega (arith, still-long 4112 owners (tables .list-nodes .kept .1 .1 .1 .1 .1 .0));
-      listed = subst (λ (r : Counted). NodesListed (c .before .before .before .before .before .before .before .before .before .before .before .before .before .args .file .now) r cand keys owners) (c .counted2 .given .1) (tables .list-nodes .ensures);
+      listed = subst (λ (r : Counted). NodesListed (s .args .file .now) r cand keys owners) (c .counted2 .given .1) (tables .list-nodes .ensures);
     }
 
 slice-aggregate-list-nodes : tie.Need-slice-aggregate-list-nodes
@@ -60,7 +61,9 @@ slice-aggregate-fill-hypotheses : tie.Need-slice-aggregate-fill-hypotheses
 slice-aggregate-fill-hypotheses c = search needs
 
 fill-hypotheses-requires : tie.Need-fill-hypotheses-requires
-fill-hypotheses-requires c κs = (lines-ready _ _ _ _ _ _ _ _ _ (whole (c .before .before .before .before .before .before .before .before .before .before)), now-clear _ _ _ _ _ _ _ _ _ (whole (c .before .before .before .before .before .before .before .before .before .before)) _ (c .before .before .before .before .fill-columns .ensures))
+fill-hypotheses-requires c κs =
+    let s = c .before .before .before .before .before .before .before .before .before .before in
+    (lines-ready _ _ _ _ _ _ _ _ _ (whole (s)), now-clear _ _ _ _ _ _ _ _ _ (whole (s)) _ (c .before .before .before .before .fill-columns .ensures))
 
 slice-aggregate-fill-queries : tie.Need-slice-aggregate-fill-queries
 slice-aggregate-fill-queries c = search needs

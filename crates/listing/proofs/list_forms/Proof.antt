@@ -23,16 +23,21 @@ puts-are : (c : tie.After-puts Inv-loop μ-loop) → c .puts .result ≡ putsOf 
 puts-are c = c .puts .ensures ∙ ap (λ (q : Prefix). putsOf (used q)) (c .before .weaker .ensures)
 
 few-puts : (c : tie.After-puts Inv-loop μ-loop) → c .puts .result < 16
-few-puts c = puts-below (c .before .before .before .before .before .before .before .before .args .p) (c .before .before .before .before .before .before .before .before .pre .sized) (c .before .before .before .loop .m) (c .puts .result) (puts-are c)
+few-puts c =
+    let s = c .before .before .before .before .before .before .before .before in
+    puts-below (s .args .p) (s .pre .sized) (c .before .before .before .loop .m) (c .puts .result) (puts-are c)
 
 -- what is found has a number, or gets the next one
 found-few : (c : tie.After-find Inv-loop μ-loop) → c .find .result < 4112
 found-few c =
-    let keys = c .before .before .before .before .before .loop .keys in
-    let n = c .before .before .before .before .before .loop .n in
-    let room = key-room _ _ _ _ _ _ _ _ _ _ _ _ _ (c .before .before .before .before .before .before .before .before .before .before .pre) (c .before .before .before .before .before .before .weaker-count .ensures) (c .before .before .before .before .before .loop .inv) (c .before .before .before .before .loop-test .taken) in
-    let few = listed-few _ _ _ _ _ _ _ _ _ _ _ _ _ (c .before .before .before .before .before .before .before .before .before .before .pre) (c .before .before .before .before .before .before .weaker-count .ensures) (c .before .before .before .before .before .loop .inv) (c .before .before .before .before .loop-test .taken) in
-    omega (arith, c .find .ensures, place-most keys n (c .before .before .before .before .before .before .before .before .before .before .args .kin * 16 + c .before .before .puts .result) (take n keys), length-take-le n keys (omega (arith, room)))
+    let s = c .before .before .before .before .before .before .before .before .before .before in
+    let at = c .before .before .before .before .before in
+    let b = c .before .before .before .before .before .before in
+    let keys = at .loop .keys in
+    let n = at .loop .n in
+    let room = key-room _ _ _ _ _ _ _ _ _ _ _ _ _ (s .pre) (b .weaker-count .ensures) (at .loop .inv) (c .before .before .before .before .loop-test .taken) in
+    let few = listed-few _ _ _ _ _ _ _ _ _ _ _ _ _ (s .pre) (b .weaker-count .ensures) (at .loop .inv) (c .before .before .before .before .loop-test .taken) in
+    omega (arith, c .find .ensures, place-most keys n (s .args .kin * 16 + c .before .before .puts .result) (take n keys), length-take-le n keys (omega (arith, room)))
 
 weaker-count-requires : tie.Need-weaker-count-requires Inv-loop μ-loop
 weaker-count-requires c κs = c .before .before .before .pre .sized
@@ -64,13 +69,17 @@ mul-form : tie.Need-mul-form Inv-loop μ-loop
 mul-form c = omega (arith, c .before .before .before .before .before .before .before .before .before .before .pre .base-few)
 
 add-form : tie.Need-add-form Inv-loop μ-loop
-add-form c = omega (arith, c .before .before .before .before .before .before .before .before .before .before .pre .base-few, c .before .before .before .before .before .before .before .before .before .before .pre .few-weaker, c .before .before .before .before .before .before .weaker-count .ensures)
+add-form c =
+    let s = c .before .before .before .before .before .before .before .before .before .before in
+    omega (arith, s .pre .base-few, s .pre .few-weaker, c .before .before .before .before .before .before .weaker-count .ensures)
 
 cast-cand : tie.Need-cast-cand Inv-loop μ-loop
 cast-cand c = omega (arith, found-few c)
 
 mul-cand : tie.Need-mul-cand Inv-loop μ-loop
-mul-cand c = omega (arith, c .before .before .before .before .before .before .before .before .before .before .pre .base-few, c .before .before .before .before .before .before .before .before .before .before .pre .few-weaker, c .before .before .before .before .before .before .weaker-count .ensures)
+mul-cand c =
+    let s = c .before .before .before .before .before .before .before .before .before .before in
+    omega (arith, s .pre .base-few, s .pre .few-weaker, c .before .before .before .before .before .before .weaker-count .ensures)
 
 slice-write-cand : tie.Need-slice-write-cand Inv-loop μ-loop
 slice-write-cand c = form-room _ _ _ _ _ _ _ _ _ _ _ _ _ (c .before .before .before .before .before .before .before .before .before .before .pre) (c .before .before .before .before .before .before .weaker-count .ensures) (c .before .before .before .before .before .loop .inv) (c .before .before .before .before .loop-test .taken)
@@ -82,7 +91,9 @@ slice-write-keys : tie.Need-slice-write-keys Inv-loop μ-loop
 slice-write-keys c = key-room _ _ _ _ _ _ _ _ _ _ _ _ _ (c .before .before .before .before .before .before .before .before .before .before .pre) (c .before .before .before .before .before .before .weaker-count .ensures) (c .before .before .before .before .before .loop .inv) (c .before .before .before .before .loop-test .taken)
 
 cast-owners : tie.Need-cast-owners Inv-loop μ-loop
-cast-owners c = omega (arith, c .before .before .before .before .before .before .before .before .before .before .pre .base-few, c .before .before .before .before .before .before .before .before .before .before .pre .few-weaker, c .before .before .before .before .before .before .weaker-count .ensures)
+cast-owners c =
+    let s = c .before .before .before .before .before .before .before .before .before .before in
+    omega (arith, s .pre .base-few, s .pre .few-weaker, c .before .before .before .before .before .before .weaker-count .ensures)
 
 mul-owners : tie.Need-mul-owners Inv-loop μ-loop
 mul-owners c = omega (arith, listed-few _ _ _ _ _ _ _ _ _ _ _ _ _ (c .before .before .before .before .before .before .before .before .before .before .pre) (c .before .before .before .before .before .before .weaker-count .ensures) (c .before .before .before .before .before .loop .inv) (c .before .before .before .before .loop-test .taken))
@@ -101,8 +112,9 @@ loop-less c = omega arith
 
 loop-again : tie.Need-loop-again Inv-loop μ-loop
 loop-again c =
+    let s = c .before .before .before in
     turning-on _ _ _ _ _ _ _ _ _ _ _ _ _ (c .before .before .before .before .before .before .before .before .before .before .before .pre) (c .before .before .before .before .before .before .before .weaker-count .ensures) (c .before .before .before .before .before .before .loop .inv) (c .before .before .before .before .before .loop-test .taken)
-    (c .before .before .before .puts .result) _ (c .before .find .result) (c .grown .result) (puts-are (c .before .before .before)) refl (c .before .find .ensures) (c .grown .ensures)
+    (s .puts .result) _ (c .before .find .result) (c .grown .result) (puts-are (s)) refl (c .before .find .ensures) (c .grown .ensures)
 
 same-length : tie.Need-same-length Inv-loop μ-loop
 same-length c = c .before .loop .inv .cand-size

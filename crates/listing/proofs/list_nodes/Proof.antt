@@ -18,16 +18,25 @@ loop-holds : tie.Need-loop-holds Inv-loop μ-loop
 loop-holds c = let s = c .before .before .before .before .before in nodes-begin (s .args .file .now) (s .args .cand .now) (s .args .keys .now) (s .args .owners .now)
 
 list-node-requires : tie.Need-list-node-requires Inv-loop μ-loop
-list-node-requires c κs = node-ready _ _ _ _ _ _ _ _ _ _ (c .before .before .before .before .before .before .before .before .before .before .pre .0) (c .before .before .before .before .before .before .before .before .before .before .pre .1 .1) (c .before .before .before .before .loop .inv) (subst (λ (k : ℕ). c .before .before .before .before .loop .i < k) (c .before .before .before .before .before .before .before .before .before .before .pre .1 .0) (c .before .before .before .loop-test .taken))
+list-node-requires c κs =
+    let s = c .before .before .before .before .before .before .before .before .before .before in
+    let at = c .before .before .before .before in
+    node-ready _ _ _ _ _ _ _ _ _ _ (s .pre .0) (s .pre .1 .1) (at .loop .inv) (subst (λ (k : ℕ). at .loop .i < k) (s .pre .1 .0) (c .before .before .before .loop-test .taken))
 
 add-line : tie.Need-add-line Inv-loop μ-loop
-add-line c = omega (arith, count-few _ _ (c .before .before .before .before .before .before .before .before .before .before .before .before .before .before .before .before .before .before .pre .0), (subst (λ (k : ℕ). c .before .before .before .before .before .before .before .before .before .before .before .before .loop .i < k) (c .before .before .before .before .before .before .before .before .before .before .before .before .before .before .before .before .before .before .pre .1 .0) (c .before .before .before .before .before .before .before .before .before .before .before .loop-test .taken)))
+add-line c =
+    let s = c .before .before .before .before .before .before .before .before .before .before .before .before .before .before .before .before .before .before in
+    omega (arith, count-few _ _ (s .pre .0), (subst (λ (k : ℕ). c .before .before .before .before .before .before .before .before .before .before .before .before .loop .i < k) (s .pre .1 .0) (c .before .before .before .before .before .before .before .before .before .before .before .loop-test .taken)))
 
 mul-line : tie.Need-mul-line Inv-loop μ-loop
-mul-line c = omega (arith, count-few _ _ (c .before .before .before .before .before .before .before .before .before .before .before .before .before .before .before .before .before .before .pre .0), (subst (λ (k : ℕ). c .before .before .before .before .before .before .before .before .before .before .before .before .loop .i < k) (c .before .before .before .before .before .before .before .before .before .before .before .before .before .before .before .before .before .before .pre .1 .0) (c .before .before .before .before .before .before .before .before .before .before .before .loop-test .taken)))
+mul-line c =
+    let s = c .before .before .before .before .before .before .before .before .before .before .before .before .before .before .before .before .before .before in
+    omega (arith, count-few _ _ (s .pre .0), (subst (λ (k : ℕ). c .before .before .before .before .before .before .before .before .before .before .before .before .loop .i < k) (s .pre .1 .0) (c .before .before .before .before .before .before .before .before .before .before .before .loop-test .taken)))
 
 shared-slice-read-line : tie.Need-shared-slice-read-line Inv-loop μ-loop
-shared-slice-read-line c = omega (arith, count-few _ _ (c .before .before .before .before .before .before .before .before .before .before .before .before .before .before .before .before .before .before .before .pre .0), (subst (λ (k : ℕ). c .before .before .before .before .before .before .before .before .before .before .before .before .before .loop .i < k) (c .before .before .before .before .before .before .before .before .before .before .before .before .before .before .before .before .before .before .before .pre .1 .0) (c .before .before .before .before .before .before .before .before .before .before .before .before .loop-test .taken)), table-long _ _ (c .before .before .before .before .before .before .before .before .before .before .before .before .before .before .before .before .before .before .before .pre .0))
+shared-slice-read-line c =
+    let s = c .before .before .before .before .before .before .before .before .before .before .before .before .before .before .before .before .before .before .before in
+    omega (arith, count-few _ _ (s .pre .0), (subst (λ (k : ℕ). c .before .before .before .before .before .before .before .before .before .before .before .before .before .loop .i < k) (s .pre .1 .0) (c .before .before .before .before .before .before .before .before .before .before .before .before .loop-test .taken)), table-long _ _ (s .pre .0))
 
 cast-line : tie.Need-cast-line Inv-loop μ-loop
 cast-line c = omega (arith, c .shared-slice-known3 .given (5120 + c .before .before .before .before .before .before .before .before .before .before .before .before .before .loop .i))
@@ -42,18 +51,26 @@ same-length-3 : tie.Need-same-length-3 Inv-loop μ-loop
 same-length-3 c = c .before .before .before .before .before .before .before .before .list-node .kept .1 .1 .1 .1 .1 .0 ∙ c .before .before .before .before .before .before .before .before .before .before .before .before .before .loop .inv .owners-size
 
 returns : tie.Need-returns Inv-loop μ-loop
-returns c = nodes-over _ _ _ _ _ _ _ _ _ _ (c .before .before .before .before .before .before .before .before .before .before .before .before .before .before .before .before .before .before .before .pre .0) (c .before .before .before .before .before .before .before .before .before .before .before .before .before .before .before .before .before .before .before .pre .1 .1) (c .before .before .before .before .before .before .before .before .before .before .before .before .before .loop .inv) (subst (λ (k : ℕ). c .before .before .before .before .before .before .before .before .before .before .before .before .before .loop .i < k) (c .before .before .before .before .before .before .before .before .before .before .before .before .before .before .before .before .before .before .before .pre .1 .0) (c .before .before .before .before .before .before .before .before .before .before .before .before .loop-test .taken)) _ _ _ _ (c .before .before .before .before .before .before .before .before .list-node .ensures) (c .before .if1 .taken) _ _ _
+returns c =
+    let s = c .before .before .before .before .before .before .before .before .before .before .before .before .before .before .before .before .before .before .before in
+    let at = c .before .before .before .before .before .before .before .before .before .before .before .before .before in
+    nodes-over _ _ _ _ _ _ _ _ _ _ (s .pre .0) (s .pre .1 .1) (at .loop .inv) (subst (λ (k : ℕ). at .loop .i < k) (s .pre .1 .0) (c .before .before .before .before .before .before .before .before .before .before .before .before .loop-test .taken)) _ _ _ _ (c .before .before .before .before .before .before .before .before .list-node .ensures) (c .before .if1 .taken) _ _ _
 
 add-i : tie.Need-add-i Inv-loop μ-loop
-add-i c = omega (arith, count-few _ _ (c .before .before .before .before .before .before .before .before .before .before .before .before .before .before .before .before .before .before .pre .0), (subst (λ (k : ℕ). c .before .before .before .before .before .before .before .before .before .before .before .before .loop .i < k) (c .before .before .before .before .before .before .before .before .before .before .before .before .before .before .before .before .before .before .pre .1 .0) (c .before .before .before .before .before .before .before .before .before .before .before .loop-test .taken)))
+add-i c =
+    let s = c .before .before .before .before .before .before .before .before .before .before .before .before .before .before .before .before .before .before in
+    omega (arith, count-few _ _ (s .pre .0), (subst (λ (k : ℕ). c .before .before .before .before .before .before .before .before .before .before .before .before .loop .i < k) (s .pre .1 .0) (c .before .before .before .before .before .before .before .before .before .before .before .loop-test .taken)))
 
 loop-less : tie.Need-loop-less Inv-loop μ-loop
 loop-less c = omega arith
 
 loop-again : tie.Need-loop-again Inv-loop μ-loop
 loop-again c =
-    nodes-on _ _ _ _ _ _ _ _ _ _ (c .before .before .before .before .before .before .before .before .before .before .before .before .before .before .before .before .before .before .pre .0) (c .before .before .before .before .before .before .before .before .before .before .before .before .before .before .before .before .before .before .pre .1 .1) (c .before .before .before .before .before .before .before .before .before .before .before .before .loop .inv) (subst (λ (k : ℕ). c .before .before .before .before .before .before .before .before .before .before .before .before .loop .i < k) (c .before .before .before .before .before .before .before .before .before .before .before .before .before .before .before .before .before .before .pre .1 .0) (c .before .before .before .before .before .before .before .before .before .before .before .loop-test .taken)) _ _ _ _ (c .before .before .before .before .before .before .before .list-node .ensures) (c .if1 .left)
-    (c .before .before .before .before .before .before .before .list-node .kept .1 .1 .1 .0) (c .before .before .before .before .before .before .before .list-node .kept .1 .1 .1 .1 .0) (c .before .before .before .before .before .before .before .list-node .kept .1 .1 .1 .1 .1 .0)
+    let s = c .before .before .before .before .before .before .before .before .before .before .before .before .before .before .before .before .before .before in
+    let at = c .before .before .before .before .before .before .before in
+    let b = c .before .before .before .before .before .before .before .before .before .before .before .before in
+    nodes-on _ _ _ _ _ _ _ _ _ _ (s .pre .0) (s .pre .1 .1) (b .loop .inv) (subst (λ (k : ℕ). b .loop .i < k) (s .pre .1 .0) (c .before .before .before .before .before .before .before .before .before .before .before .loop-test .taken)) _ _ _ _ (at .list-node .ensures) (c .if1 .left)
+    (at .list-node .kept .1 .1 .1 .0) (at .list-node .kept .1 .1 .1 .1 .0) (at .list-node .kept .1 .1 .1 .1 .1 .0)
 
 same-length-4 : tie.Need-same-length-4 Inv-loop μ-loop
 same-length-4 c = c .before .loop .inv .cand-size

@@ -26,7 +26,9 @@ too-many-requires : tie.Need-too-many-requires
 too-many-requires c κs = (was-passed (code2 (c .before .before .before .before .before .args .file .now)) (sym (c .before .before .first-malformed .ensures) ∙ c .enum-told .given .1))
 
 returns-3 : tie.Need-returns-3
-returns-3 c = c .too-many .ensures ∙ check-nodes (c .before .before .before .before .before .before .args .file .now) (c .before .before .before .before .if1 .left) (was-passed (code2 (c .before .before .before .before .before .before .args .file .now)) (sym (c .before .before .before .first-malformed .ensures) ∙ c .before .enum-told .given .1))
+returns-3 c =
+    let s = c .before .before .before .before .before .before in
+    c .too-many .ensures ∙ check-nodes (s .args .file .now) (c .before .before .before .before .if1 .left) (was-passed (code2 (s .args .file .now)) (sym (c .before .before .before .first-malformed .ensures) ∙ c .before .enum-told .given .1))
 
 pub check-spec : {M : Type 1} → statement M
 check-spec =

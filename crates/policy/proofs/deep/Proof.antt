@@ -22,7 +22,10 @@ cell-requires-2 : tie.Need-cell-requires-2 Inv-loop μ-loop
 cell-requires-2 c κs = ((omega arith, omega (arith, c .before .before .before .before .before .pre .few)), c .before .before .before .before .before .pre .long)
 
 returns : tie.Need-returns Inv-loop μ-loop
-returns c = deep-stop (c .before .before .before .before .before .before .args .nodes .now) (c .before .before .before .before .before .before .args .count) (c .before .before .before .before .loop .i) (c .before .before .before .before .loop .inv .1) (omega arith) (omega (arith, c .before .before .cell .ensures)) (c .cell2 .result) (c .cell2 .ensures)
+returns c =
+    let s = c .before .before .before .before .before .before in
+    let at = c .before .before .before .before in
+    deep-stop (s .args .nodes .now) (s .args .count) (at .loop .i) (at .loop .inv .1) (omega arith) (omega (arith, c .before .before .cell .ensures)) (c .cell2 .result) (c .cell2 .ensures)
 
 add-i : tie.Need-add-i Inv-loop μ-loop
 add-i c = omega arith
@@ -31,7 +34,10 @@ loop-less : tie.Need-loop-less Inv-loop μ-loop
 loop-less c = omega arith
 
 loop-again : tie.Need-loop-again Inv-loop μ-loop
-loop-again c = (omega arith, deep-turn (c .before .before .before .before .before .args .nodes .now) (c .before .before .before .before .before .args .count) (c .before .before .before .loop .i) (c .before .before .before .loop .inv .1) (omega arith) (omega (arith, c .before .cell .ensures)))
+loop-again c =
+    let s = c .before .before .before .before .before in
+    let at = c .before .before .before in
+    (omega arith, deep-turn (s .args .nodes .now) (s .args .count) (at .loop .i) (at .loop .inv .1) (omega arith) (omega (arith, c .before .cell .ensures)))
 
 returns-2 : tie.Need-returns-2 Inv-loop μ-loop
 returns-2 c = deep-over (c .before .before .before .args .nodes .now) (c .before .before .before .args .count) (c .before .loop .i) (c .before .loop .inv .1) (omega arith)

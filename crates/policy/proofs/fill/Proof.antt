@@ -9,16 +9,22 @@ fill-spots-requires : tie.Need-fill-spots-requires
 fill-spots-requires c κs = search needs
 
 fill-ends-requires : tie.Need-fill-ends-requires
-fill-ends-requires c κs = begun-holding _ _ _ _ (c .before .before .before .fill-spots .ensures) (c .before .before .before .before .before .before .before .pre .1 .0) (c .before .before .before .before .before .before .before .pre .1 .1 .1)
+fill-ends-requires c κs =
+    let s = c .before .before .before .before .before .before .before in
+    begun-holding _ _ _ _ (c .before .before .before .fill-spots .ensures) (s .pre .1 .0) (s .pre .1 .1 .1)
 
 fill-above-requires : tie.Need-fill-above-requires
-fill-above-requires c κs = ended-holding _ _ _ _ (c .before .before .before .before .before .before .before .fill-spots .ensures) (c .before .before .before .before .before .before .before .before .before .before .before .pre .1 .0) (c .before .before .before .before .before .before .before .before .before .before .before .pre .1 .1 .1) _ (c .before .before .before .fill-ends .ensures)
+fill-above-requires c κs =
+    let s = c .before .before .before .before .before .before .before .before .before .before .before in
+    ended-holding _ _ _ _ (c .before .before .before .before .before .before .before .fill-spots .ensures) (s .pre .1 .0) (s .pre .1 .1 .1) _ (c .before .before .before .fill-ends .ensures)
 
 same-length : tie.Need-same-length
 same-length c = search needs
 
 returns : tie.Need-returns
-returns c = all-filled _ _ _ _ (c .before .before .before .before .before .before .before .before .before .before .fill-spots .ensures) (c .before .before .before .before .before .before .before .before .before .before .before .before .before .before .pre .1 .0) (c .before .before .before .before .before .before .before .before .before .before .before .before .before .before .pre .1 .1 .1) _ (c .before .before .before .before .before .before .fill-ends .ensures) _ (c .before .before .fill-above .ensures)
+returns c =
+    let s = c .before .before .before .before .before .before .before .before .before .before .before .before .before .before in
+    all-filled _ _ _ _ (c .before .before .before .before .before .before .before .before .before .before .fill-spots .ensures) (s .pre .1 .0) (s .pre .1 .1 .1) _ (c .before .before .before .before .before .before .fill-ends .ensures) _ (c .before .before .fill-above .ensures)
 
 pub fill-spec : {M : Type 1} → statement M
 fill-spec =

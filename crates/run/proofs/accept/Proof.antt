@@ -25,7 +25,8 @@ slice-aggregate-fill c = search needs
 
 fill-requires : tie.Need-fill-requires
 fill-requires c κs =
-    (second-passed _ _ (c .before .before .before .check .ensures) (c .before .enum-told .given .1), (third-passed _ _ (c .before .before .before .check .ensures) (c .before .enum-told .given .1), (first-passed _ _ (c .before .before .before .check .ensures) (c .before .enum-told .given .1), length-replicate {A = ℕ} 7168 0)))
+    let s = c .before .before .before in
+    (second-passed _ _ (s .check .ensures) (c .before .enum-told .given .1), (third-passed _ _ (s .check .ensures) (c .before .enum-told .given .1), (first-passed _ _ (s .check .ensures) (c .before .enum-told .given .1), length-replicate {A = ℕ} 7168 0)))
 
 slice-aggregate-deep : tie.Need-slice-aggregate-deep
 slice-aggregate-deep c = search needs
@@ -49,7 +50,8 @@ slice-aggregate-list c = search needs
 
 list-requires : tie.Need-list-requires
 list-requires c κs =
-    list-asks _ _ (c .before .before .before .before .before .before .before .before .before .before .before .before .check .ensures) (c .before .before .before .before .before .before .before .before .before .before .enum-told .given .1) _ _ (c .before .before .before .before .before .before .before .before .fill .ensures) _ (c .before .before .before .before .before .deep .ensures) _ _ (c .before .before .before .enum-told2 .given .1) (c .before .before .before .before .before .before .before .before .before .before .before .before .before .before .before .before .pre .0) (c .before .before .before .before .before .before .before .before .before .before .before .before .before .before .before .before .pre .1)
+    let s = c .before .before .before .before .before .before .before .before .before .before .before .before .before .before .before .before in
+    list-asks _ _ (c .before .before .before .before .before .before .before .before .before .before .before .before .check .ensures) (c .before .before .before .before .before .before .before .before .before .before .enum-told .given .1) _ _ (c .before .before .before .before .before .before .before .before .fill .ensures) _ (c .before .before .before .before .before .deep .ensures) _ _ (c .before .before .before .enum-told2 .given .1) (s .pre .0) (s .pre .1)
 
 enum-known-listed : tie.Need-enum-known-listed
 enum-known-listed c = search needs

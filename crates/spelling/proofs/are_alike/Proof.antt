@@ -29,7 +29,10 @@ shared-slice-read-if2-2 : tie.Need-shared-slice-read-if2-2 Inv-loop μ-loop
 shared-slice-read-if2-2 c = omega arith
 
 returns-2 : tie.Need-returns-2 Inv-loop μ-loop
-returns-2 c = sym (c .before .before .before .before .loop .inv .1 ∙ alike-stop (c .before .before .before .before .before .before .args .a .now) (c .before .before .before .before .before .before .args .b .now) (c .before .before .before .before .loop .i) (omega arith) (omega arith) (c .if2 .taken))
+returns-2 c =
+    let s = c .before .before .before .before .before .before in
+    let at = c .before .before .before .before in
+    sym (at .loop .inv .1 ∙ alike-stop (s .args .a .now) (s .args .b .now) (at .loop .i) (omega arith) (omega arith) (c .if2 .taken))
 
 add-i : tie.Need-add-i Inv-loop μ-loop
 add-i c = omega arith
@@ -38,10 +41,15 @@ loop-less : tie.Need-loop-less Inv-loop μ-loop
 loop-less c = omega arith
 
 loop-again : tie.Need-loop-again Inv-loop μ-loop
-loop-again c = (omega arith, c .before .before .before .before .loop .inv .1 ∙ alike-turn (c .before .before .before .before .before .before .args .a .now) (c .before .before .before .before .before .before .args .b .now) (c .before .before .before .before .loop .i) (omega arith) (omega arith) (c .if2 .left))
+loop-again c =
+    let s = c .before .before .before .before .before .before in
+    let at = c .before .before .before .before in
+    (omega arith, at .loop .inv .1 ∙ alike-turn (s .args .a .now) (s .args .b .now) (at .loop .i) (omega arith) (omega arith) (c .if2 .left))
 
 returns-3 : tie.Need-returns-3 Inv-loop μ-loop
-returns-3 c = sym (c .before .loop .inv .1 ∙ alike-over (c .before .before .before .args .a .now) (c .before .before .before .args .b .now) (c .before .loop .i) (omega arith) (omega arith))
+returns-3 c =
+    let s = c .before .before .before in
+    sym (c .before .loop .inv .1 ∙ alike-over (s .args .a .now) (s .args .b .now) (c .before .loop .i) (omega arith) (omega arith))
 
 pub are-alike-spec : {M : Type 1} → statement M
 are-alike-spec =

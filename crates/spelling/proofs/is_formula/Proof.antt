@@ -36,45 +36,60 @@ enum-told c = search needs
 
 returns : tie.Need-returns Inv-loop μ-loop
 returns c =
+    let s = c .before .before .before .before .before in
     sym
-    (node-stuck (c .before .before .before .before .before .before .before .args .text .now) (c .before .before .before .before .before .loop .at) (c .before .before .before .before .before .loop .needed) (c .before .before .before .before .before .loop .inv .0) (omega arith) (c .before .before .before .before .before .loop .inv .1 .1)
+    (node-stuck (c .before .before .before .before .before .before .before .args .text .now) (s .loop .at) (s .loop .needed) (s .loop .inv .0) (omega arith) (s .loop .inv .1 .1)
     (ap (goneOn _) (sym (c .before .before .before .node-at .ensures)) ∙ sym (c .before .before .gone-on .ensures) ∙ c .enum-told .given .1))
 
 returns-2 : tie.Need-returns-2 Inv-loop μ-loop
 returns-2 c =
-    let t = node-taken (c .before .before .before .before .before .before .before .before .before .args .text .now) (c .before .before .before .before .before .before .before .loop .at) (c .before .before .before .before .before .before .before .loop .needed) (c .before .before .before .before .before .before .before .loop .inv .0) (omega arith) (c .before .before .next .given .0 .0)
+    let s = c .before .before .before .before .before .before .before in
+    let at = c .before .before .before .before .before .before .before .before .before in
+    let t = node-taken (at .args .text .now) (s .loop .at) (s .loop .needed) (s .loop .inv .0) (omega arith) (c .before .before .next .given .0 .0)
     (ap (goneOn _) (sym (c .before .before .before .before .before .node-at .ensures)) ∙ sym (c .before .before .before .before .gone-on .ensures) ∙ c .before .before .next .given .1) in
-    sym (c .before .before .before .before .before .before .before .loop .inv .1 .1 ∙ taken-end (c .before .before .before .before .before .before .before .before .before .args .text .now) (c .before .before .before .before .before .before .before .loop .at) (c .before .before .before .before .before .before .before .loop .needed) (c .before .before .next .given .0 .0 .at) (c .before .before .next .given .0 .0 .needed) t (c .if1 .taken))
+    sym (s .loop .inv .1 .1 ∙ taken-end (at .args .text .now) (s .loop .at) (s .loop .needed) (c .before .before .next .given .0 .0 .at) (c .before .before .next .given .0 .0 .needed) t (c .if1 .taken))
 
 shared-slice-read-if2 : tie.Need-shared-slice-read-if2 Inv-loop μ-loop
 shared-slice-read-if2 c =
-    let t = node-taken (c .before .before .before .before .before .before .before .before .before .before .args .text .now) (c .before .before .before .before .before .before .before .before .loop .at) (c .before .before .before .before .before .before .before .before .loop .needed) (c .before .before .before .before .before .before .before .before .loop .inv .0) (omega arith) (c .before .before .before .next .given .0 .0)
-    (ap (goneOn _) (sym (c .before .before .before .before .before .before .node-at .ensures)) ∙ sym (c .before .before .before .before .before .gone-on .ensures) ∙ c .before .before .before .next .given .1) in
+    let s = c .before .before .before .before .before .before .before .before in
+    let at = c .before .before .before in
+    let t = node-taken (c .before .before .before .before .before .before .before .before .before .before .args .text .now) (s .loop .at) (s .loop .needed) (s .loop .inv .0) (omega arith) (at .next .given .0 .0)
+    (ap (goneOn _) (sym (c .before .before .before .before .before .before .node-at .ensures)) ∙ sym (c .before .before .before .before .before .gone-on .ensures) ∙ at .next .given .1) in
     omega arith
 
 returns-3 : tie.Need-returns-3 Inv-loop μ-loop
 returns-3 c =
-    let t = node-taken (c .before .before .before .before .before .before .before .before .before .before .before .args .text .now) (c .before .before .before .before .before .before .before .before .before .loop .at) (c .before .before .before .before .before .before .before .before .before .loop .needed) (c .before .before .before .before .before .before .before .before .before .loop .inv .0) (omega arith) (c .before .before .before .before .next .given .0 .0)
-    (ap (goneOn _) (sym (c .before .before .before .before .before .before .before .node-at .ensures)) ∙ sym (c .before .before .before .before .before .before .gone-on .ensures) ∙ c .before .before .before .before .next .given .1) in
-    sym (taken-feed (c .before .before .before .before .before .before .before .before .before .before .before .args .text .now) (c .before .before .before .before .before .before .before .before .before .loop .at) (c .before .before .before .before .before .before .before .before .before .loop .needed) (c .before .before .before .before .next .given .0 .0 .at) (c .before .before .before .before .next .given .0 .0 .needed) t (omega arith) (c .if2 .taken))
+    let s = c .before .before .before .before .before .before .before .before .before in
+    let at = c .before .before .before .before .before .before .before .before .before .before .before in
+    let b = c .before .before .before .before in
+    let t = node-taken (at .args .text .now) (s .loop .at) (s .loop .needed) (s .loop .inv .0) (omega arith) (b .next .given .0 .0)
+    (ap (goneOn _) (sym (c .before .before .before .before .before .before .before .node-at .ensures)) ∙ sym (c .before .before .before .before .before .before .gone-on .ensures) ∙ b .next .given .1) in
+    sym (taken-feed (at .args .text .now) (s .loop .at) (s .loop .needed) (b .next .given .0 .0 .at) (b .next .given .0 .0 .needed) t (omega arith) (c .if2 .taken))
 
 add-at : tie.Need-add-at Inv-loop μ-loop
 add-at c =
-    let t = node-taken (c .before .before .before .before .before .before .before .before .before .before .before .args .text .now) (c .before .before .before .before .before .before .before .before .before .loop .at) (c .before .before .before .before .before .before .before .before .before .loop .needed) (c .before .before .before .before .before .before .before .before .before .loop .inv .0) (omega arith) (c .before .before .before .before .next .given .0 .0)
-    (ap (goneOn _) (sym (c .before .before .before .before .before .before .before .node-at .ensures)) ∙ sym (c .before .before .before .before .before .before .gone-on .ensures) ∙ c .before .before .before .before .next .given .1) in
+    let s = c .before .before .before .before .before .before .before .before .before in
+    let at = c .before .before .before .before in
+    let t = node-taken (c .before .before .before .before .before .before .before .before .before .before .before .args .text .now) (s .loop .at) (s .loop .needed) (s .loop .inv .0) (omega arith) (at .next .given .0 .0)
+    (ap (goneOn _) (sym (c .before .before .before .before .before .before .before .node-at .ensures)) ∙ sym (c .before .before .before .before .before .before .gone-on .ensures) ∙ at .next .given .1) in
     omega arith
 
 loop-less : tie.Need-loop-less Inv-loop μ-loop
 loop-less c =
-    let t = node-taken (c .before .before .before .before .before .before .before .before .before .before .before .args .text .now) (c .before .before .before .before .before .before .before .before .before .loop .at) (c .before .before .before .before .before .before .before .before .before .loop .needed) (c .before .before .before .before .before .before .before .before .before .loop .inv .0) (omega arith) (c .before .before .before .before .next .given .0 .0)
-    (ap (goneOn _) (sym (c .before .before .before .before .before .before .before .node-at .ensures)) ∙ sym (c .before .before .before .before .before .before .gone-on .ensures) ∙ c .before .before .before .before .next .given .1) in
+    let s = c .before .before .before .before .before .before .before .before .before in
+    let at = c .before .before .before .before in
+    let t = node-taken (c .before .before .before .before .before .before .before .before .before .before .before .args .text .now) (s .loop .at) (s .loop .needed) (s .loop .inv .0) (omega arith) (at .next .given .0 .0)
+    (ap (goneOn _) (sym (c .before .before .before .before .before .before .before .node-at .ensures)) ∙ sym (c .before .before .before .before .before .before .gone-on .ensures) ∙ at .next .given .1) in
     omega arith
 
 loop-again : tie.Need-loop-again Inv-loop μ-loop
 loop-again c =
-    let t = node-taken (c .before .before .before .before .before .before .before .before .before .before .before .args .text .now) (c .before .before .before .before .before .before .before .before .before .loop .at) (c .before .before .before .before .before .before .before .before .before .loop .needed) (c .before .before .before .before .before .before .before .before .before .loop .inv .0) (omega arith) (c .before .before .before .before .next .given .0 .0)
-    (ap (goneOn _) (sym (c .before .before .before .before .before .before .before .node-at .ensures)) ∙ sym (c .before .before .before .before .before .before .gone-on .ensures) ∙ c .before .before .before .before .next .given .1) in
-    (omega arith, (omega arith, c .before .before .before .before .before .before .before .before .before .loop .inv .1 .1 ∙ taken-on (c .before .before .before .before .before .before .before .before .before .before .before .args .text .now) (c .before .before .before .before .before .before .before .before .before .loop .at) (c .before .before .before .before .before .before .before .before .before .loop .needed) (c .before .before .before .before .next .given .0 .0 .at) (c .before .before .before .before .next .given .0 .0 .needed) t (omega arith) (c .if2 .left)))
+    let s = c .before .before .before .before .before .before .before .before .before in
+    let at = c .before .before .before .before .before .before .before .before .before .before .before in
+    let b = c .before .before .before .before in
+    let t = node-taken (at .args .text .now) (s .loop .at) (s .loop .needed) (s .loop .inv .0) (omega arith) (b .next .given .0 .0)
+    (ap (goneOn _) (sym (c .before .before .before .before .before .before .before .node-at .ensures)) ∙ sym (c .before .before .before .before .before .before .gone-on .ensures) ∙ b .next .given .1) in
+    (omega arith, (omega arith, s .loop .inv .1 .1 ∙ taken-on (at .args .text .now) (s .loop .at) (s .loop .needed) (b .next .given .0 .0 .at) (b .next .given .0 .0 .needed) t (omega arith) (c .if2 .left)))
 
 returns-4 : tie.Need-returns-4 Inv-loop μ-loop
 returns-4 c = sym (c .before .loop .inv .1 .1 ∙ too-early (c .before .loop .needed) (drop (c .before .loop .at) (c .before .before .before .args .text .now)) (omega arith))

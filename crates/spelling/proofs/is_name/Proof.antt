@@ -35,7 +35,9 @@ is-name-byte-requires : tie.Need-is-name-byte-requires Inv-loop μ-loop
 is-name-byte-requires c κs = omega arith
 
 returns-3 : tie.Need-returns-3 Inv-loop μ-loop
-returns-3 c = sym (c .before .before .before .before .loop .inv .1 ∙ every-stop isNameByte (c .before .before .before .before .before .before .before .before .args .word .now) (c .before .before .before .before .loop .i) (omega arith) (sym (c .before .is-name-byte .ensures) ∙ not-true (c .before .is-name-byte .result) (c .if3 .taken)))
+returns-3 c =
+    let s = c .before .before .before .before in
+    sym (s .loop .inv .1 ∙ every-stop isNameByte (c .before .before .before .before .before .before .before .before .args .word .now) (s .loop .i) (omega arith) (sym (c .before .is-name-byte .ensures) ∙ not-true (c .before .is-name-byte .result) (c .if3 .taken)))
 
 add-i : tie.Need-add-i Inv-loop μ-loop
 add-i c = omega arith
@@ -44,7 +46,9 @@ loop-less : tie.Need-loop-less Inv-loop μ-loop
 loop-less c = omega arith
 
 loop-again : tie.Need-loop-again Inv-loop μ-loop
-loop-again c = (omega arith, c .before .before .before .before .loop .inv .1 ∙ every-turn isNameByte (c .before .before .before .before .before .before .before .before .args .word .now) (c .before .before .before .before .loop .i) (omega arith) (sym (c .before .is-name-byte .ensures) ∙ not-false (c .before .is-name-byte .result) (c .if3 .left)))
+loop-again c =
+    let s = c .before .before .before .before in
+    (omega arith, s .loop .inv .1 ∙ every-turn isNameByte (c .before .before .before .before .before .before .before .before .args .word .now) (s .loop .i) (omega arith) (sym (c .before .is-name-byte .ensures) ∙ not-false (c .before .is-name-byte .result) (c .if3 .left)))
 
 returns-4 : tie.Need-returns-4 Inv-loop μ-loop
 returns-4 c = sym (c .before .loop .inv .1 ∙ every-over isNameByte (c .before .before .before .before .before .args .word .now) (c .before .loop .i) (omega arith))

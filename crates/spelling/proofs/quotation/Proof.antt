@@ -18,7 +18,9 @@ shared-slice-read-if2 : tie.Need-shared-slice-read-if2
 shared-slice-read-if2 c = search needs
 
 returns-2 : tie.Need-returns-2
-returns-2 c = no-space (c .before .before .before .before .args .said) (c .before .before .before .before .args .text .now) (c .before .before .before .before .args .space) (c .if2 .taken)
+returns-2 c =
+    let s = c .before .before .before .before in
+    no-space (s .args .said) (s .args .text .now) (s .args .space) (c .if2 .taken)
 
 add-start : tie.Need-add-start
 add-start c = search needs
@@ -33,11 +35,15 @@ add-t13 : tie.Need-add-t13
 add-t13 c = search needs
 
 returns-3 : tie.Need-returns-3
-returns-3 c = ap (λ w. Quoted (c .before .before .before .before .before .before .before .args .said) (c .before .before .before .before .before .before .before .args .space + 1) (c .before .before .before .before .before .before .before .args .space + 1 + length w)) (c .before .before .word .ensures)
-    ∙ with-principal (c .before .before .before .before .before .before .before .args .said) (c .before .before .before .before .before .before .before .args .text .now) (c .before .before .before .before .before .before .before .args .space) (c .before .before .before .if2 .left) (ap isName (sym (c .before .before .word .ensures)) ∙ sym (c .before .is-name .ensures) ∙ c .if3 .taken)
+returns-3 c =
+    let s = c .before .before .before .before .before .before .before in
+    ap (λ w. Quoted (s .args .said) (s .args .space + 1) (s .args .space + 1 + length w)) (c .before .before .word .ensures)
+    ∙ with-principal (s .args .said) (s .args .text .now) (s .args .space) (c .before .before .before .if2 .left) (ap isName (sym (c .before .before .word .ensures)) ∙ sym (c .before .is-name .ensures) ∙ c .if3 .taken)
 
 returns-4 : tie.Need-returns-4
-returns-4 c = no-principal (c .before .before .before .before .before .before .before .args .said) (c .before .before .before .before .before .before .before .args .text .now) (c .before .before .before .before .before .before .before .args .space) (c .before .before .before .if2 .left) (ap isName (sym (c .before .before .word .ensures)) ∙ sym (c .before .is-name .ensures) ∙ c .if3 .left)
+returns-4 c =
+    let s = c .before .before .before .before .before .before .before in
+    no-principal (s .args .said) (s .args .text .now) (s .args .space) (c .before .before .before .if2 .left) (ap isName (sym (c .before .before .word .ensures)) ∙ sym (c .before .is-name .ensures) ∙ c .if3 .left)
 
 pub quotation-spec : {M : Type 1} → statement M
 quotation-spec =

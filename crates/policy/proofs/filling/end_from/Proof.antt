@@ -24,13 +24,22 @@ cell-requires-2 : tie.Need-cell-requires-2
 cell-requires-2 c κs = ((omega arith, c .before .before .before .pre .1 .1 .first (omega (arith, c .before .cell .ensures))), c .before .before .before .pre .1 .0)
 
 returns-2 : tie.Need-returns-2
-returns-2 c = c .before .cell2 .ensures ∙ end-quoted (c .before .before .before .before .before .args .nodes .now) (c .before .before .before .before .before .args .i) (omega (arith, c .before .before .before .cell .ensures)) (omega (arith, c .before .before .before .cell .ensures))
+returns-2 c =
+    let s = c .before .before .before .before .before in
+    let at = c .before .before .before in
+    c .before .cell2 .ensures ∙ end-quoted (s .args .nodes .now) (s .args .i) (omega (arith, at .cell .ensures)) (omega (arith, at .cell .ensures))
 
 cell-requires-3 : tie.Need-cell-requires-3
-cell-requires-3 c κs = ((omega arith, omega (arith, c .before .cell2 .ensures, c .before .before .before .before .before .pre .1 .1 .second (omega (arith, c .before .before .before .cell .ensures)) (omega (arith, c .before .before .before .cell .ensures)))), c .before .before .before .before .before .pre .1 .0)
+cell-requires-3 c κs =
+    let s = c .before .before .before .before .before in
+    let at = c .before .before .before in
+    ((omega arith, omega (arith, c .before .cell2 .ensures, s .pre .1 .1 .second (omega (arith, at .cell .ensures)) (omega (arith, at .cell .ensures)))), s .pre .1 .0)
 
 returns-3 : tie.Need-returns-3
-returns-3 c = c .cell3 .ensures ∙ ap (cellAt (c .before .before .before .before .before .before .args .nodes .now) 3) (c .before .before .cell2 .ensures) ∙ end-parts (c .before .before .before .before .before .before .args .nodes .now) (c .before .before .before .before .before .before .args .i) (omega (arith, c .before .before .before .before .cell .ensures)) (omega (arith, c .before .before .before .before .cell .ensures))
+returns-3 c =
+    let s = c .before .before .before .before .before .before in
+    let at = c .before .before .before .before in
+    c .cell3 .ensures ∙ ap (cellAt (s .args .nodes .now) 3) (c .before .before .cell2 .ensures) ∙ end-parts (s .args .nodes .now) (s .args .i) (omega (arith, at .cell .ensures)) (omega (arith, at .cell .ensures))
 
 pub end-from-spec : {M : Type 1} → statement M
 end-from-spec =

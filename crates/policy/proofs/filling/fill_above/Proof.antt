@@ -17,22 +17,32 @@ loop-holds : tie.Need-loop-holds Inv-loop μ-loop
 loop-holds c = above-begin (c .before .args .nodes .now) (c .before .args .count) (c .before .pre)
 
 hand-down-requires : tie.Need-hand-down-requires Inv-loop μ-loop
-hand-down-requires c κs = (down-here (c .before .before .before .before .args .nodes .now) (c .before .before .before .before .args .count) (c .before .before .before .before .pre) (c .before .before .loop .nodes) (c .before .before .loop .i) (c .before .before .loop .inv) (omega arith), (c .before .before .loop .inv .long, (forth-reads (c .before .before .before .before .args .nodes .now) (c .before .before .before .before .args .count) (c .before .before .before .before .pre) (c .before .before .loop .nodes) (c .before .before .loop .i) (c .before .before .loop .inv) (omega arith), forth-depth (c .before .before .before .before .args .nodes .now) (c .before .before .before .before .args .count) (c .before .before .before .before .pre) (c .before .before .loop .nodes) (c .before .before .loop .i) (c .before .before .loop .inv) (omega arith))))
+hand-down-requires c κs =
+    let s = c .before .before .before .before in
+    (down-here (s .args .nodes .now) (s .args .count) (s .pre) (c .before .before .loop .nodes) (c .before .before .loop .i) (c .before .before .loop .inv) (omega arith), (c .before .before .loop .inv .long, (forth-reads (s .args .nodes .now) (s .args .count) (s .pre) (c .before .before .loop .nodes) (c .before .before .loop .i) (c .before .before .loop .inv) (omega arith), forth-depth (s .args .nodes .now) (s .args .count) (s .pre) (c .before .before .loop .nodes) (c .before .before .loop .i) (c .before .before .loop .inv) (omega arith))))
 
 add-i : tie.Need-add-i Inv-loop μ-loop
-add-i c = omega (arith, down-here (c .before .before .before .before .before .before .before .args .nodes .now) (c .before .before .before .before .before .before .before .args .count) (c .before .before .before .before .before .before .before .pre) (c .before .before .before .before .before .loop .nodes) (c .before .before .before .before .before .loop .i) (c .before .before .before .before .before .loop .inv) (omega arith))
+add-i c =
+    let s = c .before .before .before .before .before .before .before in
+    let at = c .before .before .before .before .before in
+    omega (arith, down-here (s .args .nodes .now) (s .args .count) (s .pre) (at .loop .nodes) (at .loop .i) (at .loop .inv) (omega arith))
 
 loop-less : tie.Need-loop-less Inv-loop μ-loop
 loop-less c = omega arith
 
 loop-again : tie.Need-loop-again Inv-loop μ-loop
-loop-again c = forth-turn (c .before .before .before .before .before .before .before .args .nodes .now) (c .before .before .before .before .before .before .before .args .count) (c .before .before .before .before .before .before .before .pre) (c .before .before .before .before .before .loop .nodes) (c .before .before .before .before .before .loop .i) (c .before .before .before .before .before .loop .inv) (omega arith) (c .before .before .hand-down .last .0) (c .before .before .hand-down .ensures) (c .before .before .hand-down .kept .0)
+loop-again c =
+    let s = c .before .before .before .before .before .before .before in
+    let at = c .before .before .before .before .before in
+    forth-turn (s .args .nodes .now) (s .args .count) (s .pre) (at .loop .nodes) (at .loop .i) (at .loop .inv) (omega arith) (c .before .before .hand-down .last .0) (c .before .before .hand-down .ensures) (c .before .before .hand-down .kept .0)
 
 same-length : tie.Need-same-length Inv-loop μ-loop
 same-length c = c .before .loop .inv .long ∙ sym (c .before .before .before .pre .long)
 
 returns : tie.Need-returns Inv-loop μ-loop
-returns c = above-over (c .before .before .before .args .nodes .now) (c .before .before .before .args .count) (c .before .loop .nodes) (c .before .loop .i) (c .before .loop .inv) (omega arith)
+returns c =
+    let s = c .before .before .before in
+    above-over (s .args .nodes .now) (s .args .count) (c .before .loop .nodes) (c .before .loop .i) (c .before .loop .inv) (omega arith)
 
 pub fill-above-spec : {M : Type 1} → statement M
 fill-above-spec =

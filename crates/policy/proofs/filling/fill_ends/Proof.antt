@@ -20,22 +20,33 @@ sub-i : tie.Need-sub-i Inv-loop μ-loop
 sub-i c = omega arith
 
 end-from-requires : tie.Need-end-from-requires Inv-loop μ-loop
-end-from-requires c κs = (back-here (c .before .before .before .before .args .nodes .now) (c .before .before .before .before .args .count) (c .before .before .before .before .pre) (c .before .before .loop .nodes) (c .before .before .loop .i) (c .before .before .loop .inv) (c .before .before .loop .i - 1) (omega arith), (c .before .before .loop .inv .long, back-reads (c .before .before .before .before .args .nodes .now) (c .before .before .before .before .args .count) (c .before .before .before .before .pre) (c .before .before .loop .nodes) (c .before .before .loop .i) (c .before .before .loop .inv) (c .before .before .loop .i - 1) (omega arith)))
+end-from-requires c κs =
+    let s = c .before .before .before .before in
+    (back-here (s .args .nodes .now) (s .args .count) (s .pre) (c .before .before .loop .nodes) (c .before .before .loop .i) (c .before .before .loop .inv) (c .before .before .loop .i - 1) (omega arith), (c .before .before .loop .inv .long, back-reads (s .args .nodes .now) (s .args .count) (s .pre) (c .before .before .loop .nodes) (c .before .before .loop .i) (c .before .before .loop .inv) (c .before .before .loop .i - 1) (omega arith)))
 
 set-cell-requires : tie.Need-set-cell-requires Inv-loop μ-loop
-set-cell-requires c κs = ((omega arith, back-here (c .before .before .before .before .before .before .args .nodes .now) (c .before .before .before .before .before .before .args .count) (c .before .before .before .before .before .before .pre) (c .before .before .before .before .loop .nodes) (c .before .before .before .before .loop .i) (c .before .before .before .before .loop .inv) (c .before .before .before .before .loop .i - 1) (omega arith)), (omega (arith, c .before .end-from .ensures, back-small (c .before .before .before .before .before .before .args .nodes .now) (c .before .before .before .before .before .before .args .count) (c .before .before .before .before .before .before .pre) (c .before .before .before .before .loop .nodes) (c .before .before .before .before .loop .i) (c .before .before .before .before .loop .inv) (c .before .before .before .before .loop .i - 1) (omega arith)), c .before .before .before .before .loop .inv .long))
+set-cell-requires c κs =
+    let s = c .before .before .before .before in
+    let at = c .before .before .before .before .before .before in
+    ((omega arith, back-here (at .args .nodes .now) (at .args .count) (at .pre) (s .loop .nodes) (s .loop .i) (s .loop .inv) (s .loop .i - 1) (omega arith)), (omega (arith, c .before .end-from .ensures, back-small (at .args .nodes .now) (at .args .count) (at .pre) (s .loop .nodes) (s .loop .i) (s .loop .inv) (s .loop .i - 1) (omega arith)), s .loop .inv .long))
 
 loop-less : tie.Need-loop-less Inv-loop μ-loop
 loop-less c = omega arith
 
 loop-again : tie.Need-loop-again Inv-loop μ-loop
-loop-again c = back-turn (c .before .before .before .before .before .before .before .before .before .args .nodes .now) (c .before .before .before .before .before .before .before .before .before .args .count) (c .before .before .before .before .before .before .before .before .before .pre) (c .before .before .before .before .before .before .before .loop .nodes) (c .before .before .before .before .before .before .before .loop .i) (c .before .before .before .before .before .before .before .loop .inv) (c .before .before .before .before .before .before .before .loop .i - 1) (omega arith) (c .before .before .before .before .end-from .result) (c .before .before .before .before .end-from .ensures) (c .before .before .set-cell .last .0) (c .before .before .set-cell .ensures)
+loop-again c =
+    let s = c .before .before .before .before .before .before .before in
+    let at = c .before .before .before .before .before .before .before .before .before in
+    let b = c .before .before .before .before in
+    back-turn (at .args .nodes .now) (at .args .count) (at .pre) (s .loop .nodes) (s .loop .i) (s .loop .inv) (s .loop .i - 1) (omega arith) (b .end-from .result) (b .end-from .ensures) (c .before .before .set-cell .last .0) (c .before .before .set-cell .ensures)
 
 same-length : tie.Need-same-length Inv-loop μ-loop
 same-length c = c .before .loop .inv .long ∙ sym (c .before .before .before .pre .long)
 
 returns : tie.Need-returns Inv-loop μ-loop
-returns c = ends-over (c .before .before .before .args .nodes .now) (c .before .before .before .args .count) (c .before .loop .nodes) (c .before .loop .i) (c .before .loop .inv) (omega arith)
+returns c =
+    let s = c .before .before .before in
+    ends-over (s .args .nodes .now) (s .args .count) (c .before .loop .nodes) (c .before .loop .i) (c .before .loop .inv) (omega arith)
 
 pub fill-ends-spec : {M : Type 1} → statement M
 fill-ends-spec =

@@ -26,34 +26,57 @@ kind-number-requires : tie.Need-kind-number-requires Inv-loop μ-loop
 kind-number-requires c κs = omega arith
 
 sub-put-spot : tie.Need-sub-put-spot Inv-loop μ-loop
-sub-put-spot c = omega (arith, spots-end (c .before .before .before .before .before .before .before .before .args .file .now) (c .before .before .before .before .before .before .before .before .args .nodes .now) (c .before .before .before .before .before .loop .nodes) (c .before .before .before .before .before .loop .at) (c .before .before .before .before .before .loop .line) (c .before .before .before .before .before .loop .i) (c .before .before .before .before .before .loop .inv) (omega arith) (c .before .before .before .node-at .result) (c .before .before .before .node-at .ensures) (c .before .before .own-end .result) (c .before .before .own-end .ensures) .0)
+sub-put-spot c =
+    let s = c .before .before .before .before .before in
+    let at = c .before .before .before .before .before .before .before .before in
+    let b = c .before .before .before in
+    omega (arith, spots-end (at .args .file .now) (at .args .nodes .now) (s .loop .nodes) (s .loop .at) (s .loop .line) (s .loop .i) (s .loop .inv) (omega arith) (b .node-at .result) (b .node-at .ensures) (c .before .before .own-end .result) (c .before .before .own-end .ensures) .0)
 
 put-spot-requires : tie.Need-put-spot-requires Inv-loop μ-loop
 put-spot-requires c κs =
-    let spot = spots-end (c .before .before .before .before .before .before .before .before .args .file .now) (c .before .before .before .before .before .before .before .before .args .nodes .now) (c .before .before .before .before .before .loop .nodes) (c .before .before .before .before .before .loop .at) (c .before .before .before .before .before .loop .line) (c .before .before .before .before .before .loop .i) (c .before .before .before .before .before .loop .inv) (omega arith) (c .before .before .before .node-at .result) (c .before .before .before .node-at .ensures) (c .before .before .own-end .result) (c .before .before .own-end .ensures) in
-    let here = spots-here (c .before .before .before .before .before .before .before .before .args .file .now) (c .before .before .before .before .before .before .before .before .args .nodes .now) (c .before .before .before .before .before .loop .nodes) (c .before .before .before .before .before .loop .at) (c .before .before .before .before .before .loop .line) (c .before .before .before .before .before .loop .i) (c .before .before .before .before .before .loop .inv) (omega arith) in
-    let short = c .before .before .before .before .before .before .before .before .pre .1 .1 .0 in
-    (here, ((omega (arith, kind-small (c .before .before .before .node-at .result), c .kind-number .ensures), omega arith), ((omega arith, omega (arith, c .before .before .before .before .before .loop .inv .ahead)), c .before .before .before .before .before .loop .inv .long)))
+    let s = c .before .before .before .before .before in
+    let at = c .before .before .before .before .before .before .before .before in
+    let b = c .before .before .before in
+    let spot = spots-end (at .args .file .now) (at .args .nodes .now) (s .loop .nodes) (s .loop .at) (s .loop .line) (s .loop .i) (s .loop .inv) (omega arith) (b .node-at .result) (b .node-at .ensures) (c .before .before .own-end .result) (c .before .before .own-end .ensures) in
+    let here = spots-here (at .args .file .now) (at .args .nodes .now) (s .loop .nodes) (s .loop .at) (s .loop .line) (s .loop .i) (s .loop .inv) (omega arith) in
+    let short = at .pre .1 .1 .0 in
+    (here, ((omega (arith, kind-small (b .node-at .result), c .kind-number .ensures), omega arith), ((omega arith, omega (arith, s .loop .inv .ahead)), s .loop .inv .long)))
 
 next-spot-requires : tie.Need-next-spot-requires Inv-loop μ-loop
-next-spot-requires c κs = spots-end (c .before .before .before .before .before .before .before .before .before .before .before .args .file .now) (c .before .before .before .before .before .before .before .before .before .before .before .args .nodes .now) (c .before .before .before .before .before .before .before .before .loop .nodes) (c .before .before .before .before .before .before .before .before .loop .at) (c .before .before .before .before .before .before .before .before .loop .line) (c .before .before .before .before .before .before .before .before .loop .i) (c .before .before .before .before .before .before .before .before .loop .inv) (omega arith) (c .before .before .before .before .before .before .node-at .result) (c .before .before .before .before .before .before .node-at .ensures) (c .before .before .before .before .before .own-end .result) (c .before .before .before .before .before .own-end .ensures) .1
+next-spot-requires c κs =
+    let s = c .before .before .before .before .before .before .before .before in
+    let at = c .before .before .before .before .before .before .before .before .before .before .before in
+    let b = c .before .before .before .before .before .before in
+    spots-end (at .args .file .now) (at .args .nodes .now) (s .loop .nodes) (s .loop .at) (s .loop .line) (s .loop .i) (s .loop .inv) (omega arith) (b .node-at .result) (b .node-at .ensures) (c .before .before .before .before .before .own-end .result) (c .before .before .before .before .before .own-end .ensures) .1
 
 add-i : tie.Need-add-i Inv-loop μ-loop
-add-i c = omega (arith, spots-here (c .before .before .before .before .before .before .before .before .before .before .before .before .args .file .now) (c .before .before .before .before .before .before .before .before .before .before .before .before .args .nodes .now) (c .before .before .before .before .before .before .before .before .before .loop .nodes) (c .before .before .before .before .before .before .before .before .before .loop .at) (c .before .before .before .before .before .before .before .before .before .loop .line) (c .before .before .before .before .before .before .before .before .before .loop .i) (c .before .before .before .before .before .before .before .before .before .loop .inv) (omega arith))
+add-i c =
+    let s = c .before .before .before .before .before .before .before .before .before in
+    let at = c .before .before .before .before .before .before .before .before .before .before .before .before in
+    omega (arith, spots-here (at .args .file .now) (at .args .nodes .now) (s .loop .nodes) (s .loop .at) (s .loop .line) (s .loop .i) (s .loop .inv) (omega arith))
 
 loop-less : tie.Need-loop-less Inv-loop μ-loop
-loop-less c = omega (arith, spots-later (c .before .before .before .before .before .before .before .before .before .before .before .before .args .file .now) (c .before .before .before .before .before .before .before .before .before .before .before .before .args .nodes .now) (c .before .before .before .before .before .before .before .before .before .loop .nodes) (c .before .before .before .before .before .before .before .before .before .loop .at) (c .before .before .before .before .before .before .before .before .before .loop .line) (c .before .before .before .before .before .before .before .before .before .loop .i) (c .before .before .before .before .before .before .before .before .before .loop .inv) (omega arith) (c .before .before .before .before .before .before .before .node-at .result) (c .before .before .before .before .before .before .before .node-at .ensures) (c .before .before .before .before .before .before .own-end .result) (c .before .before .before .before .before .before .own-end .ensures) (c .next-spot .result) (c .next-spot .ensures))
+loop-less c =
+    let s = c .before .before .before .before .before .before .before .before .before in
+    let at = c .before .before .before .before .before .before .before .before .before .before .before .before in
+    let b = c .before .before .before .before .before .before .before in
+    omega (arith, spots-later (at .args .file .now) (at .args .nodes .now) (s .loop .nodes) (s .loop .at) (s .loop .line) (s .loop .i) (s .loop .inv) (omega arith) (b .node-at .result) (b .node-at .ensures) (c .before .before .before .before .before .before .own-end .result) (c .before .before .before .before .before .before .own-end .ensures) (c .next-spot .result) (c .next-spot .ensures))
 
 loop-again : tie.Need-loop-again Inv-loop μ-loop
 loop-again c =
-    spots-turn (c .before .before .before .before .before .before .before .before .before .before .before .before .args .file .now) (c .before .before .before .before .before .before .before .before .before .before .before .before .args .nodes .now) (c .before .before .before .before .before .before .before .before .before .loop .nodes) (c .before .before .before .before .before .before .before .before .before .loop .at) (c .before .before .before .before .before .before .before .before .before .loop .line) (c .before .before .before .before .before .before .before .before .before .loop .i) (c .before .before .before .before .before .before .before .before .before .loop .inv) (omega arith) (c .before .before .before .before .before .before .before .node-at .result) (c .before .before .before .before .before .before .before .node-at .ensures) (c .before .before .before .before .before .before .own-end .result) (c .before .before .before .before .before .before .own-end .ensures)
+    let s = c .before .before .before .before .before .before .before .before .before in
+    let at = c .before .before .before .before .before .before .before .before .before .before .before .before in
+    let b = c .before .before .before .before .before .before .before in
+    spots-turn (at .args .file .now) (at .args .nodes .now) (s .loop .nodes) (s .loop .at) (s .loop .line) (s .loop .i) (s .loop .inv) (omega arith) (b .node-at .result) (b .node-at .ensures) (c .before .before .before .before .before .before .own-end .result) (c .before .before .before .before .before .before .own-end .ensures)
     (c .before .before .before .before .kind-number .result) (c .before .before .before .before .kind-number .ensures) (c .before .before .before .put-spot .last .0) (c .before .before .before .put-spot .ensures) (c .next-spot .result) (c .next-spot .ensures)
 
 same-length : tie.Need-same-length Inv-loop μ-loop
 same-length c = c .before .loop .inv .held .size
 
 returns : tie.Need-returns Inv-loop μ-loop
-returns c = spots-over (c .before .before .before .before .args .file .now) (c .before .before .before .before .args .nodes .now) (c .before .loop .nodes) (c .before .loop .at) (c .before .loop .line) (c .before .loop .i) (c .before .loop .inv) (omega arith)
+returns c =
+    let s = c .before .before .before .before in
+    spots-over (s .args .file .now) (s .args .nodes .now) (c .before .loop .nodes) (c .before .loop .at) (c .before .loop .line) (c .before .loop .i) (c .before .loop .inv) (omega arith)
 
 pub fill-spots-spec : {M : Type 1} → statement M
 fill-spots-spec =

@@ -32,43 +32,57 @@ add-put-above-2 : tie.Need-add-put-above-2
 add-put-above-2 c = search needs
 
 put-above-requires : tie.Need-put-above-requires
-put-above-requires c κs = (c .before .before .before .before .before .before .before .before .before .before .pre .1 .1 .0 .first (omega (arith, c .before .before .before .before .before .before .before .cell .ensures)), ((omega arith, omega (arith, c .before .before .cell3 .ensures, c .before .before .before .before .before .before .before .before .before .before .pre .1 .1 .1)), c .before .before .before .before .before .before .before .before .before .before .pre .1 .0))
+put-above-requires c κs =
+    let s = c .before .before .before .before .before .before .before .before .before .before in
+    (s .pre .1 .1 .0 .first (omega (arith, c .before .before .before .before .before .before .before .cell .ensures)), ((omega arith, omega (arith, c .before .before .cell3 .ensures, s .pre .1 .1 .1)), s .pre .1 .0))
 
 same-length-2 : tie.Need-same-length-2
 same-length-2 c = search needs
 
 returns-2 : tie.Need-returns-2
-returns-2 c = c .before .before .put-above .ensures
-    ∙ ap (λ d. abovePut (c .before .before .before .before .before .before .before .before .before .before .before .before .before .args .nodes .now) (c .before .before .before .before .before .before .before .before .before .before .before .before .before .args .i + 1) (c .before .before .before .before .before .before .before .before .before .before .before .before .before .args .i) (d + 1)) (c .before .before .before .before .before .cell3 .ensures) ∙ down-quoted (c .before .before .before .before .before .before .before .before .before .before .before .before .before .args .nodes .now) (c .before .before .before .before .before .before .before .before .before .before .before .before .before .args .i) (omega (arith, c .before .before .before .before .before .before .before .before .before .before .cell .ensures)) (omega (arith, c .before .before .before .before .before .before .before .before .before .before .cell .ensures))
+returns-2 c =
+    let s = c .before .before .before .before .before .before .before .before .before .before .before .before .before in
+    let at = c .before .before .before .before .before .before .before .before .before .before in
+    c .before .before .put-above .ensures
+    ∙ ap (λ d. abovePut (s .args .nodes .now) (s .args .i + 1) (s .args .i) (d + 1)) (c .before .before .before .before .before .cell3 .ensures) ∙ down-quoted (s .args .nodes .now) (s .args .i) (omega (arith, at .cell .ensures)) (omega (arith, at .cell .ensures))
 
 add-cell : tie.Need-add-cell
 add-cell c = search needs
 
 cell-requires-4 : tie.Need-cell-requires-4
-cell-requires-4 c κs = ((omega arith, c .before .before .before .before .before .before .before .before .before .before .pre .1 .1 .0 .first (omega (arith, c .before .before .before .before .before .before .before .cell .ensures))), c .before .before .before .before .before .before .before .before .before .before .pre .1 .0)
+cell-requires-4 c κs =
+    let s = c .before .before .before .before .before .before .before .before .before .before in
+    ((omega arith, s .pre .1 .1 .0 .first (omega (arith, c .before .before .before .before .before .before .before .cell .ensures))), s .pre .1 .0)
 
 add-put-above-3 : tie.Need-add-put-above-3
 add-put-above-3 c = search needs
 
 put-above-requires-2 : tie.Need-put-above-requires-2
-put-above-requires-2 c κs = (c .before .before .before .before .before .before .before .before .before .before .before .before .pre .1 .1 .0 .first (omega (arith, c .before .before .before .before .before .before .before .before .before .cell .ensures)), ((omega (arith, c .before .before .before .before .before .before .cell2 .ensures, c .before .before .before .before .before .before .before .before .before .before .before .slice-known .given (4 * 1024 + c .before .before .before .before .before .before .before .before .before .before .before .before .args .i)), omega (arith, c .before .before .before .before .cell3 .ensures, c .before .before .before .before .before .before .before .before .before .before .before .before .pre .1 .1 .1)), c .before .before .before .before .before .before .before .before .before .before .before .before .pre .1 .0))
+put-above-requires-2 c κs =
+    let s = c .before .before .before .before .before .before .before .before .before .before .before .before in
+    (s .pre .1 .1 .0 .first (omega (arith, c .before .before .before .before .before .before .before .before .before .cell .ensures)), ((omega (arith, c .before .before .before .before .before .before .cell2 .ensures, c .before .before .before .before .before .before .before .before .before .before .before .slice-known .given (4 * 1024 + s .args .i)), omega (arith, c .before .before .before .before .cell3 .ensures, s .pre .1 .1 .1)), s .pre .1 .0))
 
 put-above-requires-3 : tie.Need-put-above-requires-3
-put-above-requires-3 c κs = (
-  omega (arith, c .before .before .before .before .before .cell4 .ensures, c .before .before .before .before .before .before .before .before .before .before .before .before .before .before .before .before .pre .1 .1 .0 .second (omega (arith, c .before .before .before .before .before .before .before .before .before .before .before .before .before .cell .ensures)) (omega (arith, c .before .before .before .before .before .before .before .before .before .before .before .before .before .cell .ensures))),
-  (
-    (omega (arith, c .before .before .before .before .before .before .before .before .before .before .cell2 .ensures, c .before .before .before .before .before .before .before .before .before .before .before .before .before .before .before .slice-known .given (4 * 1024 + c .before .before .before .before .before .before .before .before .before .before .before .before .before .before .before .before .args .i)), omega (arith, c .before .before .before .before .before .before .before .before .cell3 .ensures, c .before .before .before .before .before .before .before .before .before .before .before .before .before .before .before .before .pre .1 .1 .1)),
-    ap length (c .before .before .before .put-above2 .ensures) ∙ above-size (c .before .before .before .before .before .before .before .before .before .before .before .before .before .before .before .before .args .nodes .now) (c .before .before .before .before .before .before .before .before .before .before .before .before .before .before .before .before .pre .1 .0) (c .before .before .before .before .before .before .before .before .before .before .before .before .before .before .before .before .args .i + 1) _ _ (c .before .before .before .before .before .before .before .before .before .before .before .before .before .before .before .before .pre .1 .1 .0 .first (omega (arith, c .before .before .before .before .before .before .before .before .before .before .before .before .before .cell .ensures))),
-  ),
-)
+put-above-requires-3 c κs =
+    let s = c .before .before .before .before .before .before .before .before .before .before .before .before .before .before .before .before in
+    let at = c .before .before .before .before .before .before .before .before .before .before .before .before .before in (
+      omega (arith, c .before .before .before .before .before .cell4 .ensures, s .pre .1 .1 .0 .second (omega (arith, at .cell .ensures)) (omega (arith, at .cell .ensures))),
+      (
+        (omega (arith, c .before .before .before .before .before .before .before .before .before .before .cell2 .ensures, c .before .before .before .before .before .before .before .before .before .before .before .before .before .before .before .slice-known .given (4 * 1024 + s .args .i)), omega (arith, c .before .before .before .before .before .before .before .before .cell3 .ensures, s .pre .1 .1 .1)),
+        ap length (c .before .before .before .put-above2 .ensures) ∙ above-size (s .args .nodes .now) (s .pre .1 .0) (s .args .i + 1) _ _ (s .pre .1 .1 .0 .first (omega (arith, at .cell .ensures))),
+      ),
+    )
 
 same-length-3 : tie.Need-same-length-3
 same-length-3 c = search needs
 
 returns-3 : tie.Need-returns-3
 returns-3 c =
-    down-stored (c .before .before .before .before .before .before .before .before .before .before .before .before .before .before .before .before .before .before .before .args .nodes .now) (c .before .before .before .before .before .before .before .before .before .before .before .before .before .before .before .before .before .before .before .args .i) (c .before .before .before .before .before .before .put-above2 .last .0) (c .before .before .put-above3 .last .0) (c .before .before .before .before .before .before .before .before .before .before .before .before .before .cell2 .result) (c .before .before .before .before .before .before .before .before .before .before .before .cell3 .result) (c .before .before .before .before .before .before .before .before .cell4 .result)
-    (c .before .before .before .before .before .before .put-above2 .ensures) (c .before .before .put-above3 .ensures) (c .before .before .before .before .before .before .before .before .before .before .before .before .before .cell2 .ensures) (c .before .before .before .before .before .before .before .before .before .before .before .cell3 .ensures) (c .before .before .before .before .before .before .before .before .cell4 .ensures) (omega (arith, c .before .before .before .before .before .before .before .before .before .before .before .before .before .before .before .before .cell .ensures)) (omega (arith, c .before .before .before .before .before .before .before .before .before .before .before .before .before .before .before .before .cell .ensures))
+    let s = c .before .before .before .before .before .before .before .before .before .before .before .before .before .before .before .before .before .before .before in
+    let at = c .before .before .before .before .before .before .before .before .before .before .before .before .before .before .before .before in
+    let b = c .before .before .before .before .before .before .before .before .before .before .before .before .before in
+    down-stored (s .args .nodes .now) (s .args .i) (c .before .before .before .before .before .before .put-above2 .last .0) (c .before .before .put-above3 .last .0) (b .cell2 .result) (c .before .before .before .before .before .before .before .before .before .before .before .cell3 .result) (c .before .before .before .before .before .before .before .before .cell4 .result)
+    (c .before .before .before .before .before .before .put-above2 .ensures) (c .before .before .put-above3 .ensures) (b .cell2 .ensures) (c .before .before .before .before .before .before .before .before .before .before .before .cell3 .ensures) (c .before .before .before .before .before .before .before .before .cell4 .ensures) (omega (arith, at .cell .ensures)) (omega (arith, at .cell .ensures))
 
 pub hand-down-spec : {M : Type 1} → statement M
 hand-down-spec =

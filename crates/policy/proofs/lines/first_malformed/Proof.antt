@@ -28,7 +28,9 @@ is-well-formed-requires c κs = (omega arith, c .line-end .ensures)
 
 returns : tie.Need-returns Inv-loop μ-loop
 unfolding verdictOf
-returns c = sym (ap verdictOf (c .before .before .before .before .loop .inv .1 ∙ code2-stop (c .before .before .before .before .before .before .args .file .now) (c .before .before .before .before .loop .start) (omega arith) (sym (c .before .is-well-formed .ensures) ∙ not-true (c .before .is-well-formed .result) (c .if1 .taken))))
+returns c =
+    let s = c .before .before .before .before in
+    sym (ap verdictOf (s .loop .inv .1 ∙ code2-stop (c .before .before .before .before .before .before .args .file .now) (s .loop .start) (omega arith) (sym (c .before .is-well-formed .ensures) ∙ not-true (c .before .is-well-formed .result) (c .if1 .taken))))
 
 add-start : tie.Need-add-start Inv-loop μ-loop
 add-start c = omega (arith, line-ended (c .before .before .before .before .before .before .args .file .now) (c .before .before .before .before .loop .start) (c .before .before .line-end .result) (omega arith) (c .before .before .line-end .ensures) (sym (c .before .is-well-formed .ensures) ∙ not-false (c .before .is-well-formed .result) (c .if1 .left)))
@@ -38,8 +40,10 @@ loop-less c = omega (arith, line-ended (c .before .before .before .before .befor
 
 loop-again : tie.Need-loop-again Inv-loop μ-loop
 loop-again c =
-    let ended = line-ended (c .before .before .before .before .before .before .args .file .now) (c .before .before .before .before .loop .start) (c .before .before .line-end .result) (omega arith) (c .before .before .line-end .ensures) (sym (c .before .is-well-formed .ensures) ∙ not-false (c .before .is-well-formed .result) (c .if1 .left)) in
-    (omega arith, c .before .before .before .before .loop .inv .1 ∙ code2-turn (c .before .before .before .before .before .before .args .file .now) (c .before .before .before .before .loop .start) (omega arith) (c .before .before .line-end .result) (c .before .before .line-end .ensures) ended (sym (c .before .is-well-formed .ensures) ∙ not-false (c .before .is-well-formed .result) (c .if1 .left)))
+    let s = c .before .before .before .before in
+    let at = c .before .before .before .before .before .before in
+    let ended = line-ended (at .args .file .now) (s .loop .start) (c .before .before .line-end .result) (omega arith) (c .before .before .line-end .ensures) (sym (c .before .is-well-formed .ensures) ∙ not-false (c .before .is-well-formed .result) (c .if1 .left)) in
+    (omega arith, s .loop .inv .1 ∙ code2-turn (at .args .file .now) (s .loop .start) (omega arith) (c .before .before .line-end .result) (c .before .before .line-end .ensures) ended (sym (c .before .is-well-formed .ensures) ∙ not-false (c .before .is-well-formed .result) (c .if1 .left)))
 
 returns-2 : tie.Need-returns-2 Inv-loop μ-loop
 unfolding verdictOf

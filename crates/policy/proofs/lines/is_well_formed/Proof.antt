@@ -17,7 +17,9 @@ sub-if2 : tie.Need-sub-if2
 sub-if2 c = search needs
 
 returns-2 : tie.Need-returns-2
-returns-2 c = line-short (c .before .before .before .args .file .now) (c .before .before .before .args .start) (c .before .before .before .args .end) (c .before .before .before .pre .0) (c .before .before .before .pre .1) (c .if2 .taken)
+returns-2 c =
+    let s = c .before .before .before in
+    line-short (s .args .file .now) (s .args .start) (s .args .end) (s .pre .0) (s .pre .1) (c .if2 .taken)
 
 shared-slice-read-is-opening : tie.Need-shared-slice-read-is-opening
 shared-slice-read-is-opening c = search needs
@@ -26,7 +28,9 @@ add-is-opening : tie.Need-add-is-opening
 add-is-opening c = search needs
 
 shared-slice-read-is-opening-2 : tie.Need-shared-slice-read-is-opening-2
-shared-slice-read-is-opening-2 c = omega (arith, until-fits isFeed (c .before .before .before .before .before .args .file .now) (c .before .before .before .before .before .args .start) (omega arith), c .before .before .before .before .before .pre .1)
+shared-slice-read-is-opening-2 c =
+    let s = c .before .before .before .before .before in
+    omega (arith, until-fits isFeed (s .args .file .now) (s .args .start) (omega arith), s .pre .1)
 
 is-opening-requires : tie.Need-is-opening-requires
 is-opening-requires c κs = search needs
@@ -41,7 +45,9 @@ part-is-formula-start : tie.Need-part-is-formula-start
 part-is-formula-start c = search needs
 
 part-is-formula-end : tie.Need-part-is-formula-end
-part-is-formula-end c = omega (arith, until-fits isFeed (c .before .before .before .before .before .before .before .args .file .now) (c .before .before .before .before .before .before .before .args .start) (omega arith), c .before .before .before .before .before .before .before .pre .1)
+part-is-formula-end c =
+    let s = c .before .before .before .before .before .before .before in
+    omega (arith, until-fits isFeed (s .args .file .now) (s .args .start) (omega arith), s .pre .1)
 
 is-formula-requires : tie.Need-is-formula-requires
 is-formula-requires c κs = search needs

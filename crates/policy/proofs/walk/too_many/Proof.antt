@@ -34,18 +34,24 @@ own-end-requires : tie.Need-own-end-requires Inv-loop μ-loop
 own-end-requires c κs = omega arith
 
 next-spot-requires : tie.Need-next-spot-requires Inv-loop μ-loop
-next-spot-requires c κs = walk-within (c .before .before .before .before .before .before .args .file .now) (c .before .before .before .before .loop .at) (c .before .before .before .before .loop .line) (c .before .before .before .before .loop .count) (c .before .before .before .before .loop .inv .1 .0) (c .before .before .before .before .loop .inv .1 .1) (omega arith) (c .own-end .result) (c .own-end .ensures ∙ ap (behindOwn (c .before .before .before .before .loop .at)) (c .before .node-at .ensures))
+next-spot-requires c κs =
+    let s = c .before .before .before .before in
+    walk-within (c .before .before .before .before .before .before .args .file .now) (s .loop .at) (s .loop .line) (s .loop .count) (s .loop .inv .1 .0) (s .loop .inv .1 .1) (omega arith) (c .own-end .result) (c .own-end .ensures ∙ ap (behindOwn (s .loop .at)) (c .before .node-at .ensures))
 
 add-count : tie.Need-add-count Inv-loop μ-loop
 add-count c = omega arith
 
 loop-less : tie.Need-loop-less Inv-loop μ-loop
-loop-less c = omega (arith, walk-later (c .before .before .before .before .before .before .before .args .file .now) (c .before .before .before .before .before .loop .at) (c .before .before .before .before .before .loop .line) (c .before .before .before .before .before .loop .count) (c .before .before .before .before .before .loop .inv .1 .0) (c .before .before .before .before .before .loop .inv .1 .1) (omega arith) (c .before .own-end .result) (c .before .own-end .ensures ∙ ap (behindOwn (c .before .before .before .before .before .loop .at)) (c .before .before .node-at .ensures)) (c .next-spot .result) (c .next-spot .ensures))
+loop-less c =
+    let s = c .before .before .before .before .before in
+    omega (arith, walk-later (c .before .before .before .before .before .before .before .args .file .now) (s .loop .at) (s .loop .line) (s .loop .count) (s .loop .inv .1 .0) (s .loop .inv .1 .1) (omega arith) (c .before .own-end .result) (c .before .own-end .ensures ∙ ap (behindOwn (s .loop .at)) (c .before .before .node-at .ensures)) (c .next-spot .result) (c .next-spot .ensures))
 
 loop-again : tie.Need-loop-again Inv-loop μ-loop
 loop-again c =
-    let here = walk-here (c .before .before .before .before .before .before .before .args .file .now) (c .before .before .before .before .before .loop .at) (c .before .before .before .before .before .loop .line) (c .before .before .before .before .before .loop .count) (c .before .before .before .before .before .loop .inv .1 .0) (c .before .before .before .before .before .loop .inv .1 .1) (omega arith) in
-    (omega arith, (omega arith, walk-on (c .before .before .before .before .before .before .before .args .file .now) (c .before .before .before .before .before .loop .at) (c .before .before .before .before .before .loop .line) (c .before .before .before .before .before .loop .count) (c .before .before .before .before .before .loop .inv .1 .0) (c .before .before .before .before .before .loop .inv .1 .1) (omega arith) (c .before .own-end .result) (c .before .own-end .ensures ∙ ap (behindOwn (c .before .before .before .before .before .loop .at)) (c .before .before .node-at .ensures)) (c .next-spot .result) (c .next-spot .ensures)))
+    let s = c .before .before .before .before .before in
+    let at = c .before .before .before .before .before .before .before in
+    let here = walk-here (at .args .file .now) (s .loop .at) (s .loop .line) (s .loop .count) (s .loop .inv .1 .0) (s .loop .inv .1 .1) (omega arith) in
+    (omega arith, (omega arith, walk-on (at .args .file .now) (s .loop .at) (s .loop .line) (s .loop .count) (s .loop .inv .1 .0) (s .loop .inv .1 .1) (omega arith) (c .before .own-end .result) (c .before .own-end .ensures ∙ ap (behindOwn (s .loop .at)) (c .before .before .node-at .ensures)) (c .next-spot .result) (c .next-spot .ensures)))
 
 returns-2 : tie.Need-returns-2 Inv-loop μ-loop
 unfolding verdictOf mostNodes

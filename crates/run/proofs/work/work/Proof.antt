@@ -6,26 +6,22 @@ use native.Mathlib.Omega.{arith}
 use borrow.Author.Needs.{needs}
 use Rattle.run.proofs.work.work.Statement.{statement}
 use Rattle.run.proofs.work.work.Tie as tie
-use Rattle.run.proofs.work.work.Reads as reads
-use Rattle.run.proofs.work.work.Lts as lts
-use Rattle.answers.proofs.answer_all.Reads as answer-all-reads
-use Rattle.growth.proofs.grow.Reads as grow-reads
-use Rattle.journal.proofs.keep.Reads as keep-reads
-use Rattle.links.proofs.link.Reads as link-reads
 
 slice-aggregate-link : tie.Need-slice-aggregate-link
 slice-aggregate-link c = search needs
 
 link-requires : tie.Need-link-requires
 link-requires c κs =
-    (few (c .before .before .before .before .before .pre .hyps) (c .before .before .before .before .before .pre .fs) (c .before .before .before .before .before .pre .queries) _ _ _ _ (c .before .before .before .before .before .pre .prepared), wide (c .before .before .before .before .before .pre .hyps) (c .before .before .before .before .before .pre .fs) (c .before .before .before .before .before .pre .queries) _ _ _ _ (c .before .before .before .before .before .pre .prepared), search needs)
+    let s = c .before .before .before .before .before in
+    (few (s .pre .hyps) (s .pre .fs) (s .pre .queries) _ _ _ _ (s .pre .prepared), wide (s .pre .hyps) (s .pre .fs) (s .pre .queries) _ _ _ _ (s .pre .prepared), search needs)
 
 slice-aggregate-keep : tie.Need-slice-aggregate-keep
 slice-aggregate-keep c = search needs
 
 keep-requires : tie.Need-keep-requires
 keep-requires c κs =
-    (wide (c .before .before .before .before .before .before .before .before .before .pre .hyps) (c .before .before .before .before .before .before .before .before .before .pre .fs) (c .before .before .before .before .before .before .before .before .before .pre .queries) _ _ _ _ (c .before .before .before .before .before .before .before .before .before .pre .prepared), few (c .before .before .before .before .before .before .before .before .before .pre .hyps) (c .before .before .before .before .before .before .before .before .before .pre .fs) (c .before .before .before .before .before .before .before .before .before .pre .queries) _ _ _ _ (c .before .before .before .before .before .before .before .before .before .pre .prepared), search needs, c .before .before .before .before .before .before .before .before .before .pre .inside)
+    let s = c .before .before .before .before .before .before .before .before .before in
+    (wide (s .pre .hyps) (s .pre .fs) (s .pre .queries) _ _ _ _ (s .pre .prepared), few (s .pre .hyps) (s .pre .fs) (s .pre .queries) _ _ _ _ (s .pre .prepared), search needs, search needs)
 
 slice-aggregate-grow : tie.Need-slice-aggregate-grow
 slice-aggregate-grow c = search needs
@@ -35,22 +31,26 @@ slice-aggregate-grow-2 c = search needs
 
 grow-requires : tie.Need-grow-requires
 grow-requires c κs =
-    grow-roomy (c .before .before .before .before .before .before .before .before .before .before .before .before .before .before .pre .hyps) (c .before .before .before .before .before .before .before .before .before .before .before .before .before .before .pre .fs) (c .before .before .before .before .before .before .before .before .before .before .before .before .before .before .pre .queries) _ _ _ _ (c .before .before .before .before .before .before .before .before .before .before .before .before .before .before .pre .prepared) _ _ _ _ (c .before .before .before .before .keep .ensures) _ _ (c .before .before .before .before .before .before .before .before .link .ensures) (c .before .before .before .before .before .before .before .before .before .before .before .before .before .before .pre .room)
+    let s = c .before .before .before .before .before .before .before .before .before .before .before .before .before .before in
+    grow-roomy (s .pre .hyps) (s .pre .fs) (s .pre .queries) _ _ _ _ (s .pre .prepared) _ _ _ _ (c .before .before .before .before .keep .ensures) _ _ (c .before .before .before .before .before .before .before .before .link .ensures) (s .pre .room)
 
 slice-aggregate-answer-all : tie.Need-slice-aggregate-answer-all
 slice-aggregate-answer-all c = search needs
 
 answer-all-requires : tie.Need-answer-all-requires
 answer-all-requires c κs =
-    answerable (c .before .before .before .before .before .before .before .before .before .before .before .before .before .before .before .before .before .before .before .before .pre .hyps) (c .before .before .before .before .before .before .before .before .before .before .before .before .before .before .before .before .before .before .before .before .pre .fs) (c .before .before .before .before .before .before .before .before .before .before .before .before .before .before .before .before .before .before .before .before .pre .queries) _ _ _ _ (c .before .before .before .before .before .before .before .before .before .before .before .before .before .before .before .before .before .before .before .before .pre .prepared) _ _ _ _ (c .before .before .before .before .before .before .before .before .before .before .keep .ensures) _ _ _ _ (c .before .before .before .before .before .grow .ensures) _ (c .before .before .before .before .before .before .before .before .before .before .before .before .before .before .before .before .before .before .before .before .pre .enough)
+    let s = c .before .before .before .before .before .before .before .before .before .before .before .before .before .before .before .before .before .before .before .before in
+    answerable (s .pre .hyps) (s .pre .fs) (s .pre .queries) _ _ _ _ (s .pre .prepared) _ _ _ _ (c .before .before .before .before .before .before .before .before .before .before .keep .ensures) _ _ _ _ (c .before .before .before .before .before .grow .ensures) _ (s .pre .enough)
 
 add-t30 : tie.Need-add-t30
 add-t30 c =
-    omega (arith, all-few (c .before .before .before .before .before .before .before .before .before .before .before .before .before .before .before .before .before .before .before .before .before .before .before .before .pre .hyps) (c .before .before .before .before .before .before .before .before .before .before .before .before .before .before .before .before .before .before .before .before .before .before .before .before .pre .fs) (c .before .before .before .before .before .before .before .before .before .before .before .before .before .before .before .before .before .before .before .before .before .before .before .before .pre .queries) _ _ _ _ (c .before .before .before .before .before .before .before .before .before .before .before .before .before .before .before .before .before .before .before .before .before .before .before .before .pre .prepared) _ _ _ _ (c .before .before .before .before .before .before .before .before .before .before .before .before .before .before .keep .ensures) _ _ _ _ (c .before .before .before .before .before .before .before .before .before .grow .ensures))
+    let s = c .before .before .before .before .before .before .before .before .before .before .before .before .before .before .before .before .before .before .before .before .before .before .before .before in
+    omega (arith, all-few (s .pre .hyps) (s .pre .fs) (s .pre .queries) _ _ _ _ (s .pre .prepared) _ _ _ _ (c .before .before .before .before .before .before .before .before .before .before .before .before .before .before .keep .ensures) _ _ _ _ (c .before .before .before .before .before .before .before .before .before .grow .ensures))
 
 mul-t31 : tie.Need-mul-t31
 mul-t31 c =
-    omega (arith, all-few (c .before .before .before .before .before .before .before .before .before .before .before .before .before .before .before .before .before .before .before .before .before .before .before .before .pre .hyps) (c .before .before .before .before .before .before .before .before .before .before .before .before .before .before .before .before .before .before .before .before .before .before .before .before .pre .fs) (c .before .before .before .before .before .before .before .before .before .before .before .before .before .before .before .before .before .before .before .before .before .before .before .before .pre .queries) _ _ _ _ (c .before .before .before .before .before .before .before .before .before .before .before .before .before .before .before .before .before .before .before .before .before .before .before .before .pre .prepared) _ _ _ _ (c .before .before .before .before .before .before .before .before .before .before .before .before .before .before .keep .ensures) _ _ _ _ (c .before .before .before .before .before .before .before .before .before .grow .ensures))
+    let s = c .before .before .before .before .before .before .before .before .before .before .before .before .before .before .before .before .before .before .before .before .before .before .before .before in
+    omega (arith, all-few (s .pre .hyps) (s .pre .fs) (s .pre .queries) _ _ _ _ (s .pre .prepared) _ _ _ _ (c .before .before .before .before .before .before .before .before .before .before .before .before .before .before .keep .ensures) _ _ _ _ (c .before .before .before .before .before .before .before .before .before .grow .ensures))
 
 same-length : tie.Need-same-length
 same-length c = search needs
