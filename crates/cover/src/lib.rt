@@ -23,12 +23,12 @@ pub enum Next {
 }
 
 // The numbers of a set, and its words.
-const NUMBERS: usize = 4096;
+const NUMBERS: usize = table::ROWS;
 
 pub const WORDS: usize = 64;
 
 // The chains of a column begin so far after those of the column before it.
-const CHAINS: usize = 8192;
+const CHAINS: usize = links::RIGHTS - links::LEFTS;
 
 // Puts a number into the set.
 fn insert(cover: &mut [u64], i: usize)
