@@ -17,11 +17,13 @@ int main(void) {
     static const char *const words[] = {"no", "yes", "open"};
 
     brimusket_report report =
-        brimusket_run((const uint8_t *)policy, strlen(policy), journal, sizeof journal, 0, 4096, answers, sizeof answers);
+        brimusket_run((const uint8_t *)policy, strlen(policy), journal, sizeof journal, 0, BRIMUSKET_ALL, answers,
+                      sizeof answers);
     if (report.code != 0) {
         printf("refused %zu %zu\n", report.code, report.place);
         return 1;
     }
+    /* Here a program brings the first `used` bytes of the journal to safety, before anyone acts on a yes. */
     printf("kept %zu, added %zu, finished %d, used %zu\n", report.kept, report.added, report.finished, report.used);
     for (size_t i = 0; i < 3; i++) {
         printf("%zu %s\n", i + 1, words[answers[i]]);

@@ -1,9 +1,10 @@
 // The C boundary, and nothing else: include/brimusket.h declares what stands here.
 ghost use mathlib.Core.Path.{_≡_};
 ghost use Rattle.infon.specs.Run.{run as ranOn};
-ghost use Rattle.brimusket.specs.Boundary.{leftIn};
+ghost use Rattle.settling.specs.Settled.{Settles};
+ghost use Rattle.brimusket.specs.Boundary.{leftIn, settlementIn};
 
-// What a call returns, laid out for C.
+// What a run returns, laid out for C.
 #[repr(C)]
 pub struct Reported {
     pub code: usize,
@@ -12,6 +13,16 @@ pub struct Reported {
     pub added: usize,
     pub finished: bool,
     pub used: usize,
+}
+
+// What a settled call returns, laid out for C: the run's report, how many whole records the journal had, what of it was not kept, and
+// the length of the text.
+#[repr(C)]
+pub struct Settled {
+    pub report: Reported,
+    pub records: usize,
+    pub dropped: usize,
+    pub length: usize,
 }
 
 // The run, for C: each slice is a pointer and a length.
@@ -34,5 +45,36 @@ pub extern "C" fn brimusket_run(
         added: report.added,
         finished: report.finished,
         used: report.used,
+    }
+}
+
+// The run with what is to be printed of it, for C.
+#[no_mangle]
+pub extern "C" fn brimusket_settle(
+    file: &[u8],
+    journal: &mut [u8],
+    used: usize,
+    limit: usize,
+    questions: bool,
+    text: &mut [u8],
+) -> Settled
+    ensures { λ r. ⌜ Settles (now (file .entry)) (now (journal .entry)) used limit questions (now (text .entry)) (settlementIn r)
+        (now (journal .exit)) (now (text .exit)) ⌝ }
+{
+    let settled = settling::settle(file, journal, used, limit, questions, text);
+    let told = settled.report;
+    let report = Reported {
+        code: told.code,
+        place: told.place,
+        kept: told.kept,
+        added: told.added,
+        finished: told.finished,
+        used: told.used,
+    };
+    Settled {
+        report,
+        records: settled.records,
+        dropped: settled.dropped,
+        length: settled.length,
     }
 }

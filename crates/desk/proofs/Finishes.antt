@@ -7,12 +7,10 @@ use mathlib.Core.Bool.{true}
 use mathlib.Core.List.{List}
 use lib.ListN.{replicate}
 use Rattle.infon.proofs.Demands.{list-short, finished-by-the-list}
-use Rattle.printing.specs.Printed.{noAnswer}
-use Rattle.settling.specs.Settled.{settledRun}
 use Rattle.desk.specs.Desk.{deskRun}
 
 pub finishes : (file : List ℕ) → deskRun file .report .code ≡ 0 → deskRun file .report .finished ≡ true
-unfolding deskRun settledRun
+unfolding deskRun
 finishes file accepted =
-    finished-by-the-list file (replicate 36864 0) 0 4096 (replicate 1024 noAnswer) accepted
-    (list-short file (replicate 36864 0) 0 4096 (replicate 1024 noAnswer) accepted)
+    finished-by-the-list file (replicate 36864 0) 0 4096 (replicate 1024 0) accepted
+    (list-short file (replicate 36864 0) 0 4096 (replicate 1024 0) accepted)

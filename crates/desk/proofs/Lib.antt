@@ -1,2 +1,3 @@
+pub mod Answering
 pub mod Case
 pub mod Finishes

@@ -10,11 +10,11 @@ ghost use Rattle.desk.specs.Desk.{deskText};
 
 // Runs a policy file from an empty journal to the end, puts what is to be printed into text, and returns its length.
 fn answer(file: &[u8], text: &mut [u8]) -> usize
-    requires { ⌜ 32768 ≤ length (now text) ⌝ }
+    requires { ⌜ 65536 ≤ length (now text) ⌝ }
     ensures { λ r. ⌜ Prints (deskText (now (file .entry))) (now (text .entry)) r (now (text .exit)) ⌝ }
 {
     let mut journal = [0u8; 36864];
-    let settled = settling::settle(file, &mut journal, 0, 4096, text);
+    let settled = settling::settle(file, &mut journal, 0, 4096, false, text);
     settled.length
 }
 
@@ -26,7 +26,7 @@ fn main() {
         os::fail(b"standard input");
         return;
     };
-    let mut text = [0u8; 32768];
+    let mut text = [0u8; 65536];
     let length = answer(&file[..n], &mut text);
     if !io::write_all(STDOUT_FILENO, &text[..length]) {
         os::fail(b"standard output");

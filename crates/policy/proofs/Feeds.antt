@@ -14,7 +14,7 @@ use lib.Dec.{eqb}
 use borrow.Author.Tests.{eqb-true, eq-eqb, ne-eqb}
 use Rattle.infon.specs.Bytes.{bytes, lineFeed, alike, every}
 use Rattle.infon.specs.Formula.{Formula, onto, spelling, formulaOf}
-use Rattle.infon.specs.Policy.{cut, placed, linesOf, Sentence, hypothesis, query, says, read, beforeFeed, sentenceOf, isSome, isWellFormed, formulaIn, passed, refused, when, andThen, code2From, code2}
+use Rattle.infon.specs.Policy.{cut, Line, placed, linesOf, Sentence, hypothesis, query, says, read, beforeFeed, sentenceOf, isSome, isWellFormed, formulaIn, passed, refused, when, andThen, code2From, code2}
 use Rattle.infon.proofs.Rows.{and-true, decided}
 use Rattle.infon.proofs.Words.{lacks, cons-lacks, every-append}
 use Rattle.infon.proofs.Lines.{cut-lineFeed, cut-byte, beforeFeed-ended, opening, line-read}
@@ -210,23 +210,29 @@ module _ (file : List ℕ) (start : ℕ) (inside : start < length file) where
   abbrev firstLine : List ℕ
   firstLine = take (suc (untilFeed (drop start file))) (drop start file)
 
-  code2-cons : code2From (placed start (cut (drop start file)))
-      ≡ andThen (when (not (isSome (sentenceOf firstLine))) 2 start)
-      (code2From (placed (start + length firstLine) (cut (drop (suc (untilFeed (drop start file))) (drop start file)))))
-  unfolding code2From placed isWellFormed
-  code2-cons = rw (cut-first (drop start file) (omega (arith, length-drop start file)))
+  abbrev linesHere : List Line
+  linesHere = placed start (cut (drop start file))
 
-  pub code2-stop : isSome (sentenceOf firstLine) ≡ false → code2From (placed start (cut (drop start file))) ≡ refused 2 start
-  unfolding when andThen
-  code2-stop h = code2-cons ∙ rw h
+  lines-first : linesHere
+      ≡ record { start = start; text = firstLine } ∷ placed (start + length firstLine) (cut (drop (suc (untilFeed (drop start file))) (drop start file)))
+  unfolding placed
+  lines-first = rw (cut-first (drop start file) (omega (arith, length-drop start file)))
 
-  pub code2-turn : (end : ℕ) → end ≡ start + untilFeed (drop start file) → end < length file → isSome (sentenceOf firstLine) ≡ true
-      → code2From (placed start (cut (drop start file))) ≡ code2From (placed (end + 1) (cut (drop (end + 1) file)))
-  unfolding when andThen
-  code2-turn end e ended h =
-      let there : start + length firstLine ≡ end + 1 =
-      omega (arith, length-take (suc (untilFeed (drop start file))) (drop start file), length-drop start file) in
-      let next : start + suc (untilFeed (drop start file)) ≡ end + 1 = omega arith in
-      let behind : drop (suc (untilFeed (drop start file))) (drop start file) ≡ drop (end + 1) file =
-      drop-drop (suc (untilFeed (drop start file))) start file ∙ ap (λ j. drop j file) next in
-      code2-cons ∙ rw (h, there, behind)
+  pub code2-stop : isSome (sentenceOf firstLine) ≡ false → code2From linesHere ≡ refused 2 start
+  unfolding code2From isWellFormed when andThen
+  code2-stop h = ap code2From lines-first ∙ rw h
+
+  module _ (end : ℕ) (at-end : end ≡ start + untilFeed (drop start file)) (ended : end < length file) where
+    -- the lines from here on are this one and those behind its line feed
+    pub lines-turn : linesHere ≡ record { start = start; text = firstLine } ∷ placed (end + 1) (cut (drop (end + 1) file))
+    lines-turn =
+        let there : start + length firstLine ≡ end + 1 =
+        omega (arith, length-take (suc (untilFeed (drop start file))) (drop start file), length-drop start file) in
+        let next : start + suc (untilFeed (drop start file)) ≡ end + 1 = omega arith in
+        let behind : drop (suc (untilFeed (drop start file))) (drop start file) ≡ drop (end + 1) file =
+        drop-drop (suc (untilFeed (drop start file))) start file ∙ ap (λ j. drop j file) next in
+        lines-first ∙ rw (there, behind)
+
+    pub code2-turn : isSome (sentenceOf firstLine) ≡ true → code2From linesHere ≡ code2From (placed (end + 1) (cut (drop (end + 1) file)))
+    unfolding code2From isWellFormed when andThen
+    code2-turn h = ap code2From lines-turn ∙ rw h

@@ -1,6 +1,6 @@
 // The policy file: codes 1 to 3 over its bytes, the table of its nodes, and code 4 over that table.
 mod filling;
-mod lines;
+pub mod lines;
 mod table;
 mod walk;
 

@@ -8,7 +8,7 @@ ghost use Rattle.policy.specs.Codes.{verdictOf};
 ghost use Rattle.policy.specs.Lining.{untilFeed, isOpening};
 
 // The place of the line feed that ends the line which starts at `start`; the file's length where there is none.
-fn line_end(file: &[u8], start: usize) -> usize
+pub fn line_end(file: &[u8], start: usize) -> usize
     requires { ⌜ start ≤ length (now file) ⌝ }
     ensures { λ r. ⌜ r ≡ start + untilFeed (drop start (now (file .entry))) ⌝ }
 {

@@ -1,5 +1,7 @@
 pub mod Placing
 pub mod Decimal
 pub mod Lines
-pub mod Reading
+pub mod Turning
+pub mod Asking
+pub mod Going
 pub mod Shown

@@ -1,10 +1,11 @@
 -- Texts put into a buffer one after the other are one text put there; what a function that prints promises leaves one answer.
 -- Assumes nothing.
 use Prim.Native.Nat.{ℕ, _+_, _-_, _≤_}
+use native.Mathlib.Nat.{add-zero}
 use native.Mathlib.Omega.{arith}
-use mathlib.Core.Path.{_≡_, refl, sym, _∙_, ap}
+use mathlib.Core.Path.{_≡_, sym, _∙_, ap}
 use mathlib.Core.List.{List, [], _++_, append-nil}
-use lib.ListN.{length, take, drop, length-append, length-drop}
+use lib.ListN.{length, take, drop, length-append, length-drop, take-append-drop}
 use lib.Seq.{take-length, drop-length, drop-drop, length-take-le}
 use Rattle.infon.specs.Run.{written}
 use Rattle.infon.proofs.Cuts.{length-written, written-more}
@@ -43,10 +44,10 @@ put-on {one} {two} {at} {b₀} p q fits =
       holds = q .holds ∙ rw (p .ends, p .holds) (written-more b₀ at one fits two);
     }
 
--- nothing yet
-pub put-none : (b : List ℕ) → Put [] 0 b 0 b
+-- nothing
+pub put-nothing : (at : ℕ) (b : List ℕ) → Put [] at b at b
 unfolding written
-put-none b = record { ends = refl; holds = refl }
+put-nothing at b = record { ends = omega arith; holds = sym (ap (λ (k : ℕ). take at b ++ drop k b) (add-zero at) ∙ take-append-drop at b) }
 
 -- a text put at the start is printed
 pub put-prints : {text b₀ b₁ : List ℕ} {r : ℕ} → Put text 0 b₀ r b₁ → length text ≤ length b₀ → Prints text b₀ r b₁

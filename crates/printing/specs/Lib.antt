@@ -1,4 +1,4 @@
--- What the programs print and read.
+-- What the programs print.
 pub mod Placed
 pub mod Printed
-pub mod Read
+pub mod Turned

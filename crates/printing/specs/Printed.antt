@@ -1,11 +1,11 @@
 -- 01, "From the desk, on both sides": what a program prints for a run's answers and for a refusal.
 use Prim.Native.Nat.{ℕ, zero, suc, _+_, _/_, _%_}
-use mathlib.Core.Bool.{cond}
-use mathlib.Core.List.{List, [], _∷_, _++_}
-use lib.ListN.{take}
+use mathlib.Core.Bool.{Bool, cond}
+use mathlib.Core.List.{List, [], _∷_, _++_, map}
 use lib.Dec.{eqb, ltb}
-use Rattle.bytes.specs.Bytes.{indexOf}
 use Rattle.infon.specs.Bytes.{bytes, space, lineFeed}
+use Rattle.infon.specs.Formula.{Formula, spelling}
+use Rattle.infon.specs.Policy.{entriesOf, queriesOf}
 use Rattle.infon.specs.Run.{Outcome}
 
 -- the decimal digits of a number, the most significant first and no zero in front, where it has at most so many
@@ -23,37 +23,34 @@ decimalOf n = digitsOf 20 n
 unfoldable pub wordOf : ℕ → List ℕ
 wordOf answer = cond (eqb answer 1) (bytes "yes") (cond (eqb answer 0) (bytes "no") (bytes "open"))
 
--- "the query's count .., a space, `yes` or `no`"
-unfoldable pub lineOf : ℕ → ℕ → List ℕ
-lineOf count answer = decimalOf count ++ (space ∷ wordOf answer ++ (lineFeed ∷ []))
+-- what stands behind an answer: nothing, or a space and the question, as the file has it
+unfoldable pub behindOf : Bool → Formula → List ℕ
+behindOf asked x = cond asked (space ∷ spelling x) []
 
--- the lines of answers whose first has this count
-unfoldable pub printedFrom : ℕ → List ℕ → List ℕ
-printedFrom count [] = []
-printedFrom count (answer ∷ rest) = lineOf count answer ++ printedFrom (count + 1) rest
+-- "the query's count .., a space, `yes` or `no`", and what stands behind that
+unfoldable pub lineOf : ℕ → ℕ → List ℕ → List ℕ
+lineOf count answer behind = decimalOf count ++ (space ∷ (wordOf answer ++ (behind ++ (lineFeed ∷ []))))
 
--- "prints one line per query: the query's count from 1, .."
-unfoldable pub printedAnswers : List ℕ → List ℕ
-printedAnswers answers = printedFrom 1 answers
+-- the lines of answers, each with what stands behind it, whose first has this count
+unfoldable pub printedFrom : ℕ → List ℕ → List (List ℕ) → List ℕ
+printedFrom count [] behinds = []
+printedFrom count (answer ∷ rest) [] = []
+printedFrom count (answer ∷ rest) (behind ∷ more) = lineOf count answer behind ++ printedFrom (count + 1) rest more
+
+-- "prints one line per query: the query's count from 1, .."; an answer is its byte, and there may be more bytes than queries
+unfoldable pub printedAnswers : Bool → List Formula → List ℕ → List ℕ
+printedAnswers asked queries answers = printedFrom 1 answers (map (behindOf asked) queries)
 
 -- "prints only `refused`, the code and the place, with single spaces"
 unfoldable pub printedRefusal : ℕ → ℕ → List ℕ
 printedRefusal code place =
     bytes "refused" ++ (space ∷ decimalOf code ++ (space ∷ decimalOf place ++ (lineFeed ∷ [])))
 
--- a byte that no answer has: it fills the answer buffer before a run
-unfoldable pub noAnswer : ℕ
-noAnswer = 255
-
--- how many answers stand in a buffer that was filled so: its bytes before the first that is none
-unfoldable pub answeredIn : List ℕ → ℕ
-answeredIn answers = indexOf noAnswer answers
-
--- what is printed of a run: the refusal alone, or a line for each answer
-unfoldable pub printedRun : ℕ → ℕ → List ℕ → List ℕ
-printedRun code place answers =
-    cond (eqb code 0) (printedAnswers (take (answeredIn answers) answers)) (printedRefusal code place)
+-- what is printed of a run: the refusal alone, or a line for each query of the file, with the questions where they are asked for
+unfoldable pub printedRun : Bool → List ℕ → ℕ → ℕ → List ℕ → List ℕ
+printedRun asked file code place answers =
+    cond (eqb code 0) (printedAnswers asked (queriesOf (entriesOf file)) answers) (printedRefusal code place)
 
 -- the same of all that a call of the run leaves
-unfoldable pub printedOf : Outcome → List ℕ
-printedOf outcome = printedRun (outcome .report .code) (outcome .report .place) (outcome .answers)
+unfoldable pub printedOf : Bool → List ℕ → Outcome → List ℕ
+printedOf asked file outcome = printedRun asked file (outcome .report .code) (outcome .report .place) (outcome .answers)

@@ -1,19 +1,16 @@
-// What the programs print and read, on slices: the text of answers and of a refusal, two texts joined, and a number in decimal.
+// What is printed of a run, on slices: a line for each query, with its question where it is asked for, or the line of a refusal.
 ghost use mathlib.Core.Path.{_≡_};
-ghost use Prim.Native.Nat.{_+_, _*_, _≤_};
-ghost use mathlib.Core.List.{_++_};
-ghost use lib.ListN.{length, take};
+ghost use Prim.Native.Nat.{_+_, _-_, _*_, _≤_, _<_};
+ghost use lib.ListN.{length};
+ghost use Rattle.infon.specs.Policy.{entriesOf, queriesOf, passed, code2};
 ghost use Rattle.printing.specs.Placed.{Put, Prints};
-ghost use Rattle.printing.specs.Printed.{decimalOf, wordOf, lineOf, printedAnswers, printedRefusal, answeredIn, printedRun};
-ghost use Rattle.printing.specs.Read.{numberOf};
+ghost use Rattle.printing.specs.Printed.{decimalOf, wordOf, lineOf, printedAnswers, printedRefusal, printedRun};
+ghost use Rattle.printing.specs.Turned.{behindFrom, Turned, Printable};
 
-// A byte that no answer has: the programs fill the answer buffer with it before a run.
-pub const NO_ANSWER: u8 = 255;
-
-// What a text spells: a number, or none.
-pub enum Number {
-    Is(usize),
-    Not,
+// How far the text has come: the place behind it, and how many answers stand in it.
+pub struct Progress {
+    pub at: usize,
+    pub count: usize,
 }
 
 // Puts a text into out from a place on, and returns the place after it.
@@ -23,15 +20,6 @@ fn put(text: &[u8], out: &mut [u8], at: usize) -> usize
 {
     let n = bytes::copy(text, &mut out[at..]);
     at + n
-}
-
-// Puts two texts one after the other, and returns the length of both.
-pub fn join(first: &[u8], second: &[u8], out: &mut [u8]) -> usize
-    requires { ⌜ length (now first) + length (now second) ≤ length (now out) ⌝ }
-    ensures { λ r. ⌜ Prints (now (first .entry) ++ now (second .entry)) (now (out .entry)) r (now (out .exit)) ⌝ }
-{
-    let n = put(first, out, 0);
-    put(second, out, n)
 }
 
 // Puts a number in decimal.
@@ -58,27 +46,76 @@ fn put_word(answer: u8, out: &mut [u8], at: usize) -> usize
     put(b"open", out, at)
 }
 
-// Puts a query's line: its count, a space, the word for its answer, and a line feed.
-fn put_line(count: usize, answer: u8, out: &mut [u8], at: usize) -> usize
-    requires { ⌜ at + 32 ≤ length (now out) ⌝ }
-    ensures { λ r. ⌜ Put (lineOf count answer) at (now (out .entry)) r (now (out .exit)) ⌝ }
+// Puts a query's line: its count, a space, the word for its answer, what stands behind that, and a line feed.
+fn put_line(count: usize, answer: u8, behind: &[u8], out: &mut [u8], at: usize) -> usize
+    requires { ⌜ at + 32 + length (now behind) ≤ length (now out) ⌝ }
+    ensures { λ r. ⌜ Put (lineOf count answer (now (behind .entry))) at (now (out .entry)) r (now (out .exit)) ⌝ }
 {
     let after_count = put_decimal(count, out, at);
     let after_space = put(b" ", out, after_count);
     let after_word = put_word(answer, out, after_space);
-    put(b"\n", out, after_word)
+    let after_behind = put(behind, out, after_word);
+    put(b"\n", out, after_behind)
 }
 
-// Prints the first count answers, a line each, and returns the length of the text.
-pub fn print_answers(answers: &[u8], count: usize, out: &mut [u8]) -> usize
-    requires { ⌜ (count ≤ length (now answers)) × (32 * count ≤ length (now out)) ⌝ }
-    ensures { λ r. ⌜ Prints (printedAnswers (take count (now (answers .entry)))) (now (out .entry)) r (now (out .exit)) ⌝ }
+// Where the part of a query's line begins that is printed behind its answer: with the space after the letter, or at the end of the
+// line, where nothing is left of it.
+fn behind_from(asked: bool, start: usize, end: usize) -> usize
+    requires { ⌜ start < end ⌝ }
+    ensures { λ r. ⌜ r ≡ behindFrom asked start end ⌝ }
+{
+    if asked {
+        return start + 1;
+    }
+    end
+}
+
+// Puts the line for the file's line from start to end, if that is a query's, with the next answer.
+fn put_query(
+    file: &[u8],
+    start: usize,
+    end: usize,
+    asked: bool,
+    answers: &[u8],
+    count: usize,
+    out: &mut [u8],
+    at: usize,
+) -> Progress
+    requires { ⌜ (start < end) × (end ≤ length (now file)) ⌝ }
+    requires { ⌜ count < length (now answers) ⌝ }
+    requires { ⌜ at + 32 + (end - start) ≤ length (now out) ⌝ }
+    ensures { λ r. ⌜ Turned (now (file .entry)) start end asked (now (answers .entry)) count at (now (out .entry)) r (now (out .exit)) ⌝ }
+{
+    if file[start] != b'Q' {
+        return Progress { at, count };
+    }
+    let from = behind_from(asked, start, end);
+    let next = put_line(count + 1, answers[count], &file[from..end], out, at);
+    Progress {
+        at: next,
+        count: count + 1,
+    }
+}
+
+// Prints the answers to a file's queries, a line each, with the questions where they are asked for, and returns the length of the
+// text. Queries that have no answer are left out, and so are answers that have no query.
+pub fn print_answers(file: &[u8], asked: bool, answers: &[u8], out: &mut [u8]) -> usize
+    requires { ⌜ code2 (now file) ≡ passed ⌝ }
+    requires { ⌜ 32 * length (now answers) + length (now file) ≤ length (now out) ⌝ }
+    ensures { λ r. ⌜ Prints (printedAnswers asked (queriesOf (entriesOf (now (file .entry)))) (now (answers .entry))) (now (out .entry)) r (now (out .exit)) ⌝ }
 {
     let mut at = 0;
-    let mut i = 0;
-    while i < count {
-        at = put_line(i + 1, answers[i], out, at);
-        i += 1;
+    let mut count = 0;
+    let mut start = 0;
+    while start < file.len() {
+        if answers.len() <= count {
+            return at;
+        }
+        let end = policy::lines::line_end(file, start);
+        let next = put_query(file, start, end, asked, answers, count, out, at);
+        at = next.at;
+        count = next.count;
+        start = end + 1;
     }
     at
 }
@@ -95,55 +132,22 @@ pub fn print_refusal(code: usize, place: usize, out: &mut [u8]) -> usize
     put(b"\n", out, after_place)
 }
 
-// How many answers stand in a buffer that was filled with NO_ANSWER before the run.
-pub fn answered(answers: &[u8]) -> usize
-    ensures { λ r. ⌜ (r ≡ answeredIn (now (answers .entry))) × (r ≤ length (now (answers .entry))) ⌝ }
-{
-    bytes::scan::find(answers, 0, answers.len(), NO_ANSWER)
-}
-
-// Prints what a run found, the refusal alone or a line for each answer, and returns the length of the text.
-pub fn print_run(code: usize, place: usize, answers: &[u8], out: &mut [u8]) -> usize
-    requires { ⌜ (32 * length (now answers) ≤ length (now out)) × (64 ≤ length (now out)) ⌝ }
-    ensures { λ r. ⌜ Prints (printedRun code place (now (answers .entry))) (now (out .entry)) r (now (out .exit)) ⌝ }
+// Prints what a run of a file found, the refusal alone or a line for each query, and returns the length of the text.
+pub fn print_run(
+    file: &[u8],
+    asked: bool,
+    code: usize,
+    place: usize,
+    answers: &[u8],
+    out: &mut [u8],
+) -> usize
+    requires { ⌜ (code ≡ 0 → Printable (now file) (now answers) (now out)) ⌝ }
+    requires { ⌜ 64 ≤ length (now out) ⌝ }
+    ensures { λ r. ⌜ Prints (printedRun asked (now (file .entry)) code place (now (answers .entry))) (now (out .entry)) r (now (out .exit)) ⌝ }
 {
     if code == 0 {
-        let count = answered(answers);
-        print_answers(answers, count, out)
+        print_answers(file, asked, answers, out)
     } else {
         print_refusal(code, place, out)
     }
-}
-
-// A byte as a number.
-fn wide(b: u8) -> usize
-    ensures { λ r. ⌜ r ≡ b ⌝ }
-{
-    b as usize
-}
-
-// Reads a number of one to nine decimal digits; anything else is none.
-pub fn read_number(text: &[u8]) -> Number
-    ensures { λ r. ⌜ r ≡ numberOf (now (text .entry)) ⌝ }
-{
-    if text.len() < 1 {
-        return Number::Not;
-    }
-    if 9 < text.len() {
-        return Number::Not;
-    }
-    let mut value: usize = 0;
-    let mut i = 0;
-    while i < text.len() {
-        let b = text[i];
-        if b < b'0' {
-            return Number::Not;
-        }
-        if b'9' < b {
-            return Number::Not;
-        }
-        value = value * 10 + wide(b - b'0');
-        i += 1;
-    }
-    Number::Is(value)
 }

@@ -1,4 +1,5 @@
+pub mod Telling
 pub mod Settling
-pub mod LastSlash
+pub mod Standing
 pub mod Written
 pub mod OneAnswer

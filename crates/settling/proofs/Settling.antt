@@ -1,46 +1,143 @@
--- What the run leaves and what is printed of it settle a call; the used bytes lie within the buffer.
+-- What the run leaves, what is printed of it and what is told of the journal settle a call.
 -- Assumes nothing.
-use Prim.Native.Nat.{ℕ, _+_, _*_, _≤_}
-use native.Mathlib.Nat.{mul-add}
-use mathlib.Core.Path.{_≡_, sym, ap}
-use mathlib.Core.List.{List}
-use lib.ListN.{length, replicate}
-use lib.Dec.{ltb}
-use lib.Seq.{length-take-le}
-use borrow.Author.Tests.{ltb-false}
-use Rattle.infon.specs.Journal.{recordBytes, spelledAll}
-use Rattle.infon.specs.Run.{Outcome, code9, refusal, success}
-use Rattle.infon.proofs.Codec.{length-spelledAll}
-use Rattle.infon.proofs.Cuts.{length-written, when-passed, run-cases}
+use Prim.Native.Nat.{ℕ, zero, suc, _≤_, _<_}
+use native.Mathlib.Omega.{arith}
+use mathlib.Core.Path.{_≡_, refl, sym, _∙_, ap}
+use mathlib.Core.Bool.{Bool, true, false, cond}
+use mathlib.Core.Logic.{⊎-elim}
+use mathlib.Core.List.{List, [], _∷_, _++_}
+use lib.ListN.{length, take, replicate, length-append}
+use lib.Dec.{eqb, ltb}
+use lib.Seq.{take-at}
+use borrow.Author.Tests.{lt-ltb, le-ltb, eqb-true}
+use Rattle.infon.specs.declared.Report.{Report}
+use Rattle.infon.specs.Policy.{entriesOf, passed, andThen, mostBytes, code1, code2, code3, code4}
+use Rattle.infon.specs.Listing.{code5}
+use Rattle.infon.specs.Run.{Outcome, fileVerdict, run}
+use Rattle.infon.proofs.Rows.{decided}
+use Rattle.infon.proofs.Cuts.{andThen-passed, code-accepted}
+use Rattle.infon.proofs.Refusals.{file-too-long, used-too-long, accepted-exactly}
 use Rattle.printing.specs.Placed.{Prints}
-use Rattle.printing.specs.Printed.{noAnswer, printedRun, printedOf}
-use Rattle.settling.specs.Settled.{settledRun, settledText, Settles}
+use Rattle.printing.specs.Printed.{printedRun, printedOf}
+use Rattle.printing.specs.Turned.{Printable}
+use Rattle.printing.proofs.Placing.{put-nothing, put-prints}
+use Rattle.run.specs.Prepared.{left}
+use Rattle.settling.specs.declared.Settlement.{Settlement}
+use Rattle.settling.specs.Settled.{textBytes, answerRoom, settledRun, settledText, restOf, isBegun, droppedOf, Settles}
+use Rattle.settling.specs.Telling.{droppedBy, settlementOf, Shows, textOf}
+use Rattle.settling.proofs.Telling.{dropped-told, room-few}
 
--- where the used bytes lie within the buffer, they still do after a run
-pub used-within : (file journal : List ℕ) (used limit : ℕ) → used ≤ length journal
-    → settledRun file journal used limit .report .used ≤ length (settledRun file journal used limit .journal)
-unfolding settledRun refusal success code9
-used-within file journal used limit fit =
-    run-cases file journal used limit (replicate 1024 noAnswer) (λ (o : Outcome). o .report .used ≤ length (o .journal))
-    (λ code place least. fit)
-    (λ kept added keeps adds accepted room.
-    let start = recordBytes * length kept in
-    let now-used = recordBytes * (length kept + length added) in
-    let places : start + length (spelledAll added) ≡ now-used = rw (length-spelledAll, mul-add) in
-    let enough : now-used ≤ length journal = ltb-false (length journal) now-used (when-passed (ltb (length journal) now-used) 9 0 room) in
-    let fits : start + length (spelledAll added) ≤ length journal = rw places enough in
-    rw (length-written journal start (spelledAll added) fits) enough)
+-- the text is shown where it is long enough
+module _ (asked : Bool) (file : List ℕ) (code place : ℕ) (answers text : List ℕ) where
+  pub shown-nothing : length text < 65536 → Prints (textOf asked file code place answers text) text 0 text
+  unfolding textOf textBytes
+  shown-nothing h = rw (lt-ltb (length text) 65536 h) (put-prints (put-nothing 0 text) (omega arith))
 
-pub settles : (file journal : List ℕ) (used limit : ℕ) (text : List ℕ) (outcome : Outcome) (n : ℕ) (printed : List ℕ) → used ≤ length journal
-    → outcome ≡ settledRun file journal used limit → Prints (printedRun (outcome .report .code) (outcome .report .place) (outcome .answers)) text n printed
-    → Settles file journal used limit text (record { code = outcome .report .code; used = outcome .report .used; length = n }) (outcome .journal) printed
-unfolding settledText printedOf
-settles file journal used limit text outcome n printed fit e p =
-    let fits : outcome .report .used ≤ length (outcome .journal) = rw e (used-within file journal used limit fit) in
-    record {
-      code = ap (λ (o : Outcome). o .report .code) e;
-      used-now = ap (λ (o : Outcome). o .report .used) e;
-      journal-now = ap (λ (o : Outcome). o .journal) e;
-      prints = rw e at p;
-      within = (fits, sym (length-take-le (outcome .report .used) (outcome .journal) fits));
-    }
+  pub shown : 65536 ≤ length text → (n : ℕ) (printed : List ℕ) → Prints (printedRun asked file code place answers) text n printed
+      → Prints (textOf asked file code place answers text) text n printed
+  unfolding textOf textBytes
+  shown h n printed p = rw (le-ltb (length text) 65536 h) p
+
+pub printable : (file : List ℕ) (code : ℕ) (answers text : List ℕ) → Shows file code answers → 65536 ≤ length text → code ≡ 0 → Printable file answers text
+unfolding mostBytes
+printable file code answers text known long accepted =
+    let within = known .within accepted in
+    record { lines = within .0; room = omega (arith, known .few, within .1) }
+
+-- what a run that is not refused shows of its file and its journal
+module _ (file journal : List ℕ) (used limit : ℕ) (answers : List ℕ) (accepted : run file journal used limit answers .report .code ≡ 0) where
+  lines-good : code2 file ≡ passed
+  unfolding fileVerdict
+  lines-good =
+      let entries = entriesOf file in
+      let from3 = andThen (code3 entries) (andThen (code4 entries) (code5 entries)) in
+      andThen-passed (code2 file) from3 (andThen-passed (code1 file) (andThen (code2 file) from3) (code-accepted file journal used limit answers accepted) .1) .0
+
+  file-short : length file ≤ mostBytes
+  file-short =
+      let long : mostBytes < length file → ⊥ = λ h. accepted-exactly file journal used limit answers .0 accepted 1 0 (file-too-long h) in
+      omega arith
+
+  pub used-inside : used ≤ length journal
+  used-inside =
+      let over : length journal < used → ⊥ = λ h. accepted-exactly file journal used limit answers .0 accepted 7 0 (used-too-long h) in
+      omega arith
+
+-- the answer row before a run
+abbrev pub zeros : ℕ → List ℕ
+zeros n = replicate n 0
+
+-- its front, put back before the rest of it
+module _ (row rest : List ℕ) (n : ℕ) (long : length row ≡ n) where
+  pub share-within : n ≤ length (row ++ rest)
+  share-within = simp length-append (omega arith)
+
+  pub share-back : take n (row ++ rest) ≡ row
+  share-back = take-at row rest n long
+
+  pub share-counts : n ≡ length (take n (row ++ rest))
+  share-counts = sym (ap length share-back ∙ long)
+
+  pub share-short : n ≤ 1024 → length (take n (row ++ rest)) ≤ 1024
+  share-short h = omega (arith, share-counts)
+
+front-zeros : (n m : ℕ) → n ≤ m → take n (zeros m) ≡ zeros n
+front-zeros zero m h = refl
+front-zeros (suc n) zero h = absurd (omega arith)
+front-zeros (suc n) (suc m) h = ap (λ (l : List ℕ). 0 ∷ l) (front-zeros n m (omega arith))
+
+module _ (file journal : List ℕ) (used limit : ℕ) (asked : Bool) (text : List ℕ) (room : ℕ) (told-room : room ≡ answerRoom text)
+    (report : Report) (after answers : List ℕ) (ran : left report after answers ≡ run file journal used limit (take room (zeros 1024))) where
+  room-inside : room ≤ 1024
+  room-inside = omega (arith, room-few text)
+
+  ran-so : left report after answers ≡ settledRun file journal used limit text
+  unfolding settledRun
+  ran-so = ran ∙ ap (run file journal used limit) (front-zeros room 1024 room-inside ∙ ap zeros told-room)
+
+  code-now : report .code ≡ run file journal used limit (take room (zeros 1024)) .report .code
+  code-now = ap (λ (o : Outcome). o .report .code) ran
+
+  pub shows : (part : List ℕ) → length part ≤ 1024 → Shows file (report .code) part
+  shows part few =
+      record {
+        few = few;
+        within = λ accepted.
+            let zero-code = sym code-now ∙ accepted in
+            (lines-good file journal used limit (take room (zeros 1024)) zero-code, file-short file journal used limit (take room (zeros 1024)) zero-code);
+      }
+
+  told-dropped : cond (eqb (report .code) 0) (droppedBy used (report .kept) (isBegun (restOf journal used))) 0
+      ≡ cond (eqb (report .code) 0) (droppedOf journal used (report .kept)) 0
+  told-dropped =
+      ⊎-elim
+      (λ (e : eqb (report .code) 0 ≡ true).
+      let zero-code = sym code-now ∙ eqb-true (report .code) 0 e in
+      rw (dropped-told journal used (report .kept) (used-inside file journal used limit (take room (zeros 1024)) zero-code)))
+      (λ (e : eqb (report .code) 0 ≡ false). rw e)
+      (decided (eqb (report .code) 0))
+
+  told-text : textOf asked file (report .code) (report .place) answers text ≡ settledText file journal used limit asked text
+  unfolding textOf settledText printedOf
+  told-text = ap (λ (o : Outcome). cond (ltb (length text) textBytes) [] (printedOf asked file o)) ran-so
+
+  pub settled-so : (begun : Bool) → begun ≡ isBegun (restOf journal used) → (n : ℕ) (part printed : List ℕ) → part ≡ answers
+      → Prints (textOf asked file (report .code) (report .place) part text) text n printed → (settled : Settlement) → settled ≡ settlementOf report used begun n
+      → Settles file journal used limit asked text settled after printed
+  unfolding settlementOf
+  settled-so begun told-begun n part printed same p settled e =
+      rw (e, told-begun)
+      record {
+        report-now = ap (λ (o : Outcome). o .report) ran-so;
+        journal-now = ap (λ (o : Outcome). o .journal) ran-so;
+        records-had = refl;
+        dropped-now = told-dropped;
+        prints = rw (sym told-text, sym same) p;
+      }
+
+-- of a settled call that was not refused: its run was not either
+module _ (file journal : List ℕ) (used limit : ℕ) (asked : Bool) (text : List ℕ) (settled : Settlement) (after printed : List ℕ)
+    (settles : Settles file journal used limit asked text settled after printed) (accepted : settled .report .code ≡ 0) where
+  pub accepted-run : run file journal used limit (zeros (answerRoom text)) .report .code ≡ 0
+  unfolding settledRun
+  accepted-run = ap (λ (r : Report). r .code) (sym (settles .report-now)) ∙ accepted

@@ -1,3 +1,3 @@
--- What a call comes to, and which part of a path names the folder.
+-- What a call comes to.
 pub mod Settled
-pub mod Folder
+pub mod Telling

@@ -1,27 +1,54 @@
--- What a call makes of a policy file and a journal, before anything is written.
-use Prim.Native.Nat.{ℕ}
+-- What a call makes of a policy file and a journal, before anything is written: the run, the text to print of it, and what of the
+-- journal was not kept.
+use Prim.Native.Nat.{ℕ, _*_, _/_}
 use mathlib.Core.Path.{_≡_}
-use mathlib.Core.List.{List}
-use lib.ListN.{replicate}
+use mathlib.Core.Bool.{Bool, cond, _&&_}
+use mathlib.Core.List.{List, []}
+use lib.ListN.{length, take, drop, getD, replicate}
+use lib.Dec.{eqb, ltb}
+use Rattle.infon.specs.Journal.{recordBytes, markHigh, markLow}
 use Rattle.infon.specs.Run.{Outcome, run}
-use Rattle.io.specs.Counts.{Counts}
 use Rattle.printing.specs.Placed.{Prints}
-use Rattle.printing.specs.Printed.{noAnswer, printedOf}
+use Rattle.printing.specs.Printed.{printedOf}
 use Rattle.settling.specs.declared.Settlement.{Settlement}
 
--- a run on the journal's used bytes; no file has more than 1,024 queries
-unfoldable pub settledRun : List ℕ → List ℕ → ℕ → ℕ → Outcome
-settledRun file journal used limit = run file journal used limit (replicate 1024 noAnswer)
+-- a text of so many bytes has room for what is printed of any file: 32 for each of 1,024 answers, and the file's questions
+unfoldable pub textBytes : ℕ
+textBytes = 65536
 
--- what is printed of it: the refusal alone, or a line for each query
-unfoldable pub settledText : List ℕ → List ℕ → ℕ → ℕ → List ℕ
-settledText file journal used limit = printedOf (settledRun file journal used limit)
+-- how many answers a text has room for: all that a file can ask for, or none where it is shorter than that
+unfoldable pub answerRoom : List ℕ → ℕ
+answerRoom text = cond (ltb (length text) textBytes) 0 1024
 
--- The code and the used length are the run's, the journal's buffer is as the run leaves it, and the text is what is printed of it.
--- The used bytes lie within the buffer: so a caller may write them with nothing to prove.
-pub record Settles (file journal : List ℕ) (used limit : ℕ) (text : List ℕ) (settled : Settlement) (after printed : List ℕ) : Type 0 where
-  pub code : settled .code ≡ settledRun file journal used limit .report .code
-  pub used-now : settled .used ≡ settledRun file journal used limit .report .used
-  pub journal-now : after ≡ settledRun file journal used limit .journal
-  pub prints : Prints (settledText file journal used limit) text (settled .length) printed
-  pub within : Counts (settled .used) after
+-- a run on the journal's used bytes; where the text is too short for answers, a file that asks for some is refused with code 8
+unfoldable pub settledRun : List ℕ → List ℕ → ℕ → ℕ → List ℕ → Outcome
+settledRun file journal used limit text = run file journal used limit (replicate (answerRoom text) 0)
+
+-- what is printed of it: the refusal alone, or a line for each query; nothing in a text that is too short
+unfoldable pub settledText : List ℕ → List ℕ → ℕ → ℕ → Bool → List ℕ → List ℕ
+settledText file journal used limit asked text =
+    cond (ltb (length text) textBytes) [] (printedOf asked file (settledRun file journal used limit text))
+
+-- the used bytes behind the last whole record
+unfoldable pub restOf : List ℕ → ℕ → List ℕ
+restOf journal used = drop (recordBytes * (used / recordBytes)) (take used journal)
+
+-- they begin as a record does, with the mark, as far as they go
+unfoldable pub isBegun : List ℕ → Bool
+isBegun rest = eqb (getD rest 0 markHigh) markHigh && eqb (getD rest 1 markLow) markLow
+
+-- What a call that keeps so many records does not keep of the journal's used bytes: 0 nothing, 1 a last record that was cut off and
+-- nothing else, 2 more than that.
+unfoldable pub droppedOf : List ℕ → ℕ → ℕ → ℕ
+droppedOf journal used kept =
+    cond (ltb kept (used / recordBytes)) 2
+    (cond (eqb (length (restOf journal used)) 0) 0 (cond (isBegun (restOf journal used)) 1 2))
+
+-- The report and the journal's buffer are the run's; the text is what is printed of it; of a call that is not refused it is told how
+-- many whole records the journal had, and what was not kept.
+pub record Settles (file journal : List ℕ) (used limit : ℕ) (asked : Bool) (text : List ℕ) (settled : Settlement) (after printed : List ℕ) : Type 0 where
+  pub report-now : settled .report ≡ settledRun file journal used limit text .report
+  pub journal-now : after ≡ settledRun file journal used limit text .journal
+  pub records-had : settled .records ≡ cond (eqb (settled .report .code) 0) (used / recordBytes) 0
+  pub dropped-now : settled .dropped ≡ cond (eqb (settled .report .code) 0) (droppedOf journal used (settled .report .kept)) 0
+  pub prints : Prints (settledText file journal used limit asked text) text (settled .length) printed

@@ -1,17 +1,113 @@
-// What the programs make of their files, on slices and before anything is written: the journal grown and the text to print, and
-// the folder that a journal's path names.
+// What a call makes of a policy file and a journal, on slices and before anything is written: the journal grown, the text to print,
+// and what of the journal was not kept.
+use infon::Report;
+use reader::MARK_HIGH;
+use reader::MARK_LOW;
+use reader::RECORD_BYTES;
 ghost use mathlib.Core.Path.{_≡_};
-ghost use Prim.Native.Nat.{_≤_};
-ghost use lib.ListN.{length};
-ghost use Rattle.io.specs.Counts.{Counts};
-ghost use Rattle.settling.specs.Settled.{Settles};
-ghost use Rattle.settling.specs.Folder.{folderLength};
+ghost use lib.ListN.{take, getD};
+ghost use Rattle.printing.specs.Placed.{Prints};
+ghost use Rattle.settling.specs.Settled.{answerRoom, restOf, isBegun, Settles};
+ghost use Rattle.settling.specs.Telling.{droppedBy, Shows, settlementOf, textOf};
 
-// What a call came to: its code, the journal's new used length, and the length of the text to print.
+// What a call came to: the run's report, how many whole records the journal had, what of it was not kept, and the length of the text.
 pub struct Settlement {
-    pub code: usize,
-    pub used: usize,
+    pub report: Report,
+    pub records: usize,
+    pub dropped: usize,
     pub length: usize,
+}
+
+const TEXT_BYTES: usize = 65536;
+
+const MOST_ANSWERS: usize = 1024;
+
+// A byte of the journal's used bytes, or another where there is none.
+fn byte_or(journal: &[u8], used: usize, i: usize, other: u8) -> u8
+    ensures { λ r. ⌜ r ≡ getD (take used (now (journal .entry))) i other ⌝ }
+{
+    if used <= i {
+        return other;
+    }
+    if journal.len() <= i {
+        return other;
+    }
+    journal[i]
+}
+
+// The used bytes behind the last whole record begin as a record does, as far as they go.
+fn is_begun(journal: &[u8], used: usize) -> bool
+    ensures { λ r. ⌜ r ≡ isBegun (restOf (now (journal .entry)) used) ⌝ }
+{
+    let whole = RECORD_BYTES * (used / RECORD_BYTES);
+    if byte_or(journal, used, whole, MARK_HIGH) != MARK_HIGH {
+        return false;
+    }
+    byte_or(journal, used, whole + 1, MARK_LOW) == MARK_LOW
+}
+
+// What is not kept of the used bytes where so many records are: 0 nothing, 1 a last record that was cut off, 2 more than that.
+fn dropped_by(used: usize, kept: usize, begun: bool) -> usize
+    ensures { λ r. ⌜ r ≡ droppedBy used kept begun ⌝ }
+{
+    if kept < used / RECORD_BYTES {
+        return 2;
+    }
+    if used % RECORD_BYTES == 0 {
+        return 0;
+    }
+    if begun {
+        return 1;
+    }
+    2
+}
+
+// A refusal tells nothing of the journal.
+fn sum_up(report: Report, used: usize, begun: bool, length: usize) -> Settlement
+    ensures { λ r. ⌜ r ≡ settlementOf report used begun length ⌝ }
+{
+    if report.code != 0 {
+        return Settlement {
+            report,
+            records: 0,
+            dropped: 0,
+            length,
+        };
+    }
+    Settlement {
+        report,
+        records: used / RECORD_BYTES,
+        dropped: dropped_by(used, report.kept, begun),
+        length,
+    }
+}
+
+// How many answers a text has room for.
+fn answer_room(text: &[u8]) -> usize
+    ensures { λ r. ⌜ r ≡ answerRoom (now (text .entry)) ⌝ }
+{
+    if text.len() < TEXT_BYTES {
+        return 0;
+    }
+    MOST_ANSWERS
+}
+
+// Prints what a run found, where the text is long enough, and returns the length of what is printed.
+fn show(
+    file: &[u8],
+    asked: bool,
+    code: usize,
+    place: usize,
+    answers: &[u8],
+    text: &mut [u8],
+) -> usize
+    requires { ⌜ Shows (now file) code (now answers) ⌝ }
+    ensures { λ r. ⌜ Prints (textOf asked (now (file .entry)) code place (now (answers .entry)) (now (text .entry))) (now (text .entry)) r (now (text .exit)) ⌝ }
+{
+    if text.len() < TEXT_BYTES {
+        return 0;
+    }
+    printing::print_run(file, asked, code, place, answers, text)
 }
 
 // Runs the policy file on the journal's used bytes with the limit, leaves the new journal in its buffer, and puts what is to be
@@ -21,31 +117,22 @@ pub fn settle(
     journal: &mut [u8],
     used: usize,
     limit: usize,
+    asked: bool,
     text: &mut [u8],
 ) -> Settlement
-    requires { ⌜ (used ≤ length (now journal)) × (32768 ≤ length (now text)) ⌝ }
-    ensures { λ r. ⌜ Settles (now (file .entry)) (now (journal .entry)) used limit (now (text .entry)) r (now (journal .exit)) (now (text .exit)) ⌝ }
+    ensures { λ r. ⌜ Settles (now (file .entry)) (now (journal .entry)) used limit asked (now (text .entry)) r (now (journal .exit)) (now (text .exit)) ⌝ }
 {
-    let mut answers = [printing::NO_ANSWER; 1024];
-    let report = run::run(file, journal, used, limit, &mut answers);
-    let length = printing::print_run(report.code, report.place, &answers, text);
-    Settlement {
-        code: report.code,
-        used: report.used,
-        length,
-    }
-}
-
-// How long the name of the folder is in a path, with its last slash; 0 where the path has none.
-pub fn folder_length(path: &[u8]) -> usize
-    ensures { λ r. ⌜ (r ≡ folderLength (now (path .entry))) × Counts r (now (path .entry)) ⌝ }
-{
-    let mut n = path.len();
-    while 0 < n {
-        if path[n - 1] == b'/' {
-            return n;
-        }
-        n -= 1;
-    }
-    0
+    let begun = is_begun(journal, used);
+    let room = answer_room(text);
+    let mut answers = [0u8; 1024];
+    let report = run::run(file, journal, used, limit, &mut answers[..room]);
+    let length = show(
+        file,
+        asked,
+        report.code,
+        report.place,
+        &answers[..room],
+        text,
+    );
+    sum_up(report, used, begun, length)
 }

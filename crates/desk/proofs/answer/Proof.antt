@@ -1,8 +1,7 @@
 -- `desk::answer` meets its contract: the text is that of a call settled from an empty journal.
 -- Assumes nothing.
 use borrow.Author.Needs.{needs}
-use Rattle.settling.specs.Settled.{settledText}
-use Rattle.desk.specs.Desk.{deskRun, deskText}
+use Rattle.desk.proofs.Answering.{settled-desk}
 use Rattle.desk.proofs.answer.Statement.{statement}
 use Rattle.desk.proofs.answer.Tie as tie
 
@@ -16,8 +15,10 @@ same-length : tie.Need-same-length
 same-length c = search needs
 
 returns : tie.Need-returns
-unfolding deskText deskRun settledText
-returns c = c .before .before .before .settle .ensures .prints
+returns c =
+    let settled = c .before .before .before in
+    let start = settled .before .before .before .before .before in
+    settled-desk (start .args .file .now) (start .args .text .now) (start .pre) _ _ (settled .settle .ensures .prints)
 
 pub answer-spec : {M : Type 1} → statement M
 answer-spec = tie.close (tie.spec slice-aggregate-settle settle-requires same-length returns)

@@ -1,65 +1,85 @@
--- `printing::print_answers` meets its contract. The invariant: the lines of the answers that were passed stand at the buffer's
--- start. The measure is what is left of the count.
+-- `printing::print_answers` meets its contract. The invariant: what is put so far and the text of the rest are the whole text. The
+-- measure is what is left of the file.
 -- Assumes nothing.
-use Prim.Native.Nat.{_≤_, _-_}
-use mathlib.Core.Path.{_≡_}
-use lib.ListN.{take}
-use Rattle.printing.specs.Placed.{Put}
-use Rattle.printing.specs.Printed.{printedFrom}
-use Rattle.printing.proofs.Placing.{put-none}
-use Rattle.printing.proofs.Lines.{lines-room, lines-more, lines-same-length, lines-all}
 use native.Mathlib.Omega.{arith}
+use Prim.Native.Nat.{_-_, _<_}
+use lib.ListN.{length}
+use Rattle.printing.proofs.Going.{Going, begin, same-room, over-lines, over-answers, turn-places, turn-room, turn}
 use Rattle.printing.proofs.print_answers.Statement.{statement}
 use Rattle.printing.proofs.print_answers.Tie as tie
 
 abbrev Inv-loop : tie.InvT-loop
-Inv-loop answers count out₀ at₀ i₀ out at i = (i ≤ count) × Put (printedFrom 1 (take i answers)) 0 out₀ at out
+Inv-loop file asked answers out₀ at₀ count₀ start₀ out at count start = Going file asked answers out₀ out at count start
 
 abbrev μ-loop : tie.MeasureT-loop
-μ-loop answers count out₀ at₀ i₀ out at i = count - i
+μ-loop file asked answers out₀ at₀ count₀ start₀ out at count start = length file - start
+
+-- where the line ends
+places : (c : tie.After-line-end Inv-loop μ-loop)
+    → (c .before .before .before .loop .start < c .line-end .result)
+    × (c .line-end .result < length (c .before .before .before .before .before .before .before .args .file .now))
+places c =
+    let l = c .before .before .before .loop in
+    let s = c .before .before .before .before .before .before .before in
+    turn-places (s .args .file .now) (s .args .asked) (s .args .answers .now) (s .args .out .now) (l .out) (l .at) (l .count) (l .start) (l .inv) (s .pre .1)
+    (omega arith) (omega arith) (c .line-end .result) (c .line-end .ensures)
 
 loop-holds : tie.Need-loop-holds Inv-loop μ-loop
-unfolding printedFrom
-loop-holds c = (omega arith, put-none _)
-
-add-put-line : tie.Need-add-put-line Inv-loop μ-loop
-add-put-line c = omega arith
-
-shared-slice-read-put-line : tie.Need-shared-slice-read-put-line Inv-loop μ-loop
-shared-slice-read-put-line c = omega arith
-
-put-line-requires : tie.Need-put-line-requires Inv-loop μ-loop
-put-line-requires c κs =
-    let a = c .before .before .before .before .before .before .args in
-    let l = c .before .before .before .loop in
-    lines-room (a .answers .now) (l .i) (a .out .now) (l .out) (l .at) (l .inv .1) (omega arith) (omega arith)
-
-add-i : tie.Need-add-i Inv-loop μ-loop
-add-i c = omega arith
-
-loop-less : tie.Need-loop-less Inv-loop μ-loop
-loop-less c = omega arith
-
-loop-again : tie.Need-loop-again Inv-loop μ-loop
-loop-again c =
-    let a = c .before .before .before .before .before .before .before .before .before .args in
-    let l = c .before .before .before .before .before .before .loop in (
-      omega arith,
-      lines-more (a .answers .now) (l .i) (a .out .now) (l .out) (l .at) (l .inv .1) (c .before .before .put-line .last .1 .1 .0) (c .before .before .put-line .result) (omega arith) (omega arith) (c .before .before .put-line .ensures),
-    )
+loop-holds c =
+    let s = c .before .before .before in
+    begin (s .args .file .now) (s .args .asked) (s .args .answers .now) (s .args .out .now) (s .pre .0)
 
 same-length : tie.Need-same-length Inv-loop μ-loop
 same-length c =
-    let a = c .before .before .before .before .args in
-    let l = c .before .loop in
-    lines-same-length (a .answers .now) (l .i) (a .out .now) (l .out) (l .at) (l .inv .1) (omega arith) (omega arith)
+    let l = c .before .before .loop in
+    let s = c .before .before .before .before .before .before in
+    same-room (s .args .file .now) (s .args .asked) (s .args .answers .now) (s .args .out .now) (l .out) (l .at) (l .count) (l .start) (l .inv) (s .pre .1)
 
 returns : tie.Need-returns Inv-loop μ-loop
 returns c =
-    let a = c .before .before .before .before .args in
+    let l = c .before .before .loop in
+    let s = c .before .before .before .before .before .before in
+    over-answers (s .args .file .now) (s .args .asked) (s .args .answers .now) (s .args .out .now) (l .out) (l .at) (l .count) (l .start) (l .inv) (s .pre .1) (omega arith)
+
+line-end-requires : tie.Need-line-end-requires Inv-loop μ-loop
+line-end-requires c κs = omega arith
+
+put-query-requires : tie.Need-put-query-requires Inv-loop μ-loop
+put-query-requires c κs =
+    let found = c .before in
+    let l = found .before .before .before .loop in
+    let s = found .before .before .before .before .before .before .before in
+    let room =
+    turn-room (s .args .file .now) (s .args .asked) (s .args .answers .now) (s .args .out .now) (l .out) (l .at) (l .count) (l .start) (l .inv) (s .pre .1)
+    (omega arith) (omega arith) (found .line-end .result) (found .line-end .ensures) in
+    ((places found .0, omega (arith, places found .1)), (omega arith, room))
+
+add-start : tie.Need-add-start Inv-loop μ-loop
+add-start c = omega (arith, places (c .before .before .before .before) .1)
+
+loop-less : tie.Need-loop-less Inv-loop μ-loop
+loop-less c = omega (arith, places (c .before .before .before .before))
+
+loop-again : tie.Need-loop-again Inv-loop μ-loop
+loop-again c =
+    let put = c .before .before in
+    let found = put .before .before in
+    let l = found .before .before .before .loop in
+    let s = found .before .before .before .before .before .before .before in
+    turn (s .args .file .now) (s .args .asked) (s .args .answers .now) (s .args .out .now) (l .out) (l .at) (l .count) (l .start) (l .inv) (s .pre .1)
+    (omega arith) (omega arith) (found .line-end .result) (found .line-end .ensures) (put .put-query .result) _ (put .put-query .ensures)
+
+same-length-2 : tie.Need-same-length-2 Inv-loop μ-loop
+same-length-2 c =
     let l = c .before .loop in
-    let e : l .i ≡ a .count = omega arith in
-    rw e at (lines-all (a .answers .now) (l .i) (a .out .now) (l .out) (l .at) (l .inv .1) (omega arith) (omega arith))
+    let s = c .before .before .before .before .before in
+    same-room (s .args .file .now) (s .args .asked) (s .args .answers .now) (s .args .out .now) (l .out) (l .at) (l .count) (l .start) (l .inv) (s .pre .1)
+
+returns-2 : tie.Need-returns-2 Inv-loop μ-loop
+returns-2 c =
+    let l = c .before .loop in
+    let s = c .before .before .before .before .before in
+    over-lines (s .args .file .now) (s .args .asked) (s .args .answers .now) (s .args .out .now) (l .out) (l .at) (l .count) (l .start) (l .inv) (s .pre .1) (omega arith)
 
 pub print-answers-spec : {M : Type 1} → statement M
 print-answers-spec =
@@ -68,11 +88,12 @@ print-answers-spec =
     Inv-loop
     μ-loop
     loop-holds
-    add-put-line
-    shared-slice-read-put-line
-    put-line-requires
-    add-i
+    same-length
+    returns
+    line-end-requires
+    put-query-requires
+    add-start
     loop-less
     loop-again
-    same-length
-    returns)
+    same-length-2
+    returns-2)

@@ -5,11 +5,10 @@ use Rattle.printing.proofs.Lines.{run-answered, run-refused}
 use Rattle.printing.proofs.print_run.Statement.{statement}
 use Rattle.printing.proofs.print_run.Tie as tie
 
-answered-requires : tie.Need-answered-requires
-answered-requires c κs = search needs
-
 print-answers-requires : tie.Need-print-answers-requires
-print-answers-requires c κs = search needs
+print-answers-requires c κs =
+    let known = c .before .before .before .before .before .pre .0 (c .before .if1 .taken) in
+    (known .lines, known .room)
 
 print-refusal-requires : tie.Need-print-refusal-requires
 print-refusal-requires c κs = search needs
@@ -20,9 +19,8 @@ same-length c = search needs
 returns : tie.Need-returns
 returns c =
     let printed = c .before .before in
-    let told = printed .before .before in
-    let a = c .before .before .before .before .before .before .before .before .args in
-    run-answered (a .code) (a .place) (a .answers .now) _ _ (told .answered .result) _ (told .before .if1 .taken) (told .answered .ensures .0) (printed .print-answers .ensures)
+    let a = printed .before .before .before .before .before .before .args in
+    run-answered (a .asked) (a .file .now) (a .code) (a .place) (a .answers .now) _ _ _ (printed .before .before .if1 .taken) (printed .print-answers .ensures)
 
 same-length-2 : tie.Need-same-length-2
 same-length-2 c = search needs
@@ -30,10 +28,10 @@ same-length-2 c = search needs
 returns-2 : tie.Need-returns-2
 returns-2 c =
     let printed = c .before .before in
-    let a = c .before .before .before .before .before .before .before .args in
-    run-refused (a .code) (a .place) (a .answers .now) _ _ _ (printed .before .before .if1 .left) (printed .print-refusal .ensures)
+    let a = printed .before .before .before .before .before .before .args in
+    run-refused (a .asked) (a .file .now) (a .code) (a .place) (a .answers .now) _ _ _ (printed .before .before .if1 .left) (printed .print-refusal .ensures)
 
 pub print-run-spec : {M : Type 1} → statement M
 print-run-spec =
     tie.close
-    (tie.spec answered-requires print-answers-requires print-refusal-requires same-length returns same-length-2 returns-2)
+    (tie.spec print-answers-requires print-refusal-requires same-length returns same-length-2 returns-2)
