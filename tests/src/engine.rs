@@ -4,7 +4,7 @@
 use second::{fast, slow, Run};
 
 #[cfg(feature = "proved")]
-pub use proved::run as under_test;
+pub use proved::{plain, run as under_test};
 #[cfg(not(feature = "proved"))]
 pub use second::fast::run as under_test;
 
@@ -40,27 +40,16 @@ pub fn reference(file: &[u8]) -> Run {
 mod proved {
     use second::Report;
 
-    #[repr(C)]
-    struct CReport {
-        code: usize,
-        place: usize,
-        kept: usize,
-        added: usize,
-        finished: bool,
-        used: usize,
-    }
-
-    extern "C" {
-        fn brimusket_run(
-            file: *const u8,
-            file_len: usize,
-            journal: *mut u8,
-            journal_len: usize,
-            used: usize,
-            limit: usize,
-            answers: *mut u8,
-            answers_len: usize,
-        ) -> CReport;
+    /// A report of the proved library as one of the second program.
+    pub fn plain(report: brimusket::Report) -> Report {
+        Report {
+            code: report.code,
+            place: report.place,
+            kept: report.kept,
+            added: report.added,
+            finished: report.finished,
+            used: report.used,
+        }
     }
 
     /// The proved library's run.
@@ -71,27 +60,6 @@ mod proved {
         limit: usize,
         answers: &mut [u8],
     ) -> Report {
-        // SAFETY: each pointer comes with the length of its own slice, no two
-        // slices overlap, and the library keeps none of them.
-        let report = unsafe {
-            brimusket_run(
-                file.as_ptr(),
-                file.len(),
-                journal.as_mut_ptr(),
-                journal.len(),
-                used,
-                limit,
-                answers.as_mut_ptr(),
-                answers.len(),
-            )
-        };
-        Report {
-            code: report.code,
-            place: report.place,
-            kept: report.kept,
-            added: report.added,
-            finished: report.finished,
-            used: report.used,
-        }
+        plain(brimusket::run(file, journal, used, limit, answers))
     }
 }

@@ -4,12 +4,13 @@
 //! ([`cases`]); each is given to both engines on equal copies, and everything
 //! they return or leave behind is compared ([`compare`]). Which engine is under
 //! test is decided in [`engine`] alone, and where the compiled programs stand
-//! in [`workspace`].
+//! in [`workspace`]. [`night`] makes calls of the night program on real files.
 
 pub mod cases;
 pub mod compare;
 pub mod engine;
 pub mod journals;
 pub mod made_up;
+pub mod night;
 pub mod rng;
 pub mod workspace;

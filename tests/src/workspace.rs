@@ -8,16 +8,20 @@ pub fn root() -> PathBuf {
     Path::new(env!("CARGO_MANIFEST_DIR")).join("..")
 }
 
-/// The compiled program `desk` or `night`: where the variable `BRIMUSKET_DESK`
-/// or `BRIMUSKET_NIGHT` says, or under `target/bin`.
+/// The compiled program `desk`, which is proved, or `brimusket`: where the
+/// variable `BRIMUSKET_DESK` or `BRIMUSKET_BRIMUSKET` says, or where it is built.
 pub fn program(name: &str) -> PathBuf {
-    let built = Path::new("target/bin").join(name);
+    let (folder, build) = match name {
+        "brimusket" => ("target/cargo/release", "bin/brimusket --version"),
+        _ => ("target/bin", "rt check desk"),
+    };
+    let built = Path::new(folder).join(name);
     let variable = format!("BRIMUSKET_{}", name.to_uppercase());
     let path = root().join(env::var_os(variable).unwrap_or(built.into()));
     let place = path.display();
     assert!(
         path.is_file(),
-        "no program at {place}: build it with 'rt check {name}'"
+        "no program at {place}: build it with '{build}'"
     );
     path
 }

@@ -23,16 +23,14 @@ fn printed(rest: &str) -> &str {
     parts.next().expect("what the example prints")
 }
 
-/// What README.md shows for a program below the command that builds it: the
-/// command that runs it, and the lines that are printed.
-fn example<'d>(readme: &'d str, name: &str) -> (&'d str, &'d str) {
-    let built = format!("rt check {name}\n");
-    let mut commands = blocks(readme, "```sh").into_iter();
-    let (command, rest) = commands
-        .find_map(|(commands, rest)| Some((commands.strip_prefix(&built)?, rest)))
-        .expect("an example of the program");
-    let (printed, _) = blocks(rest, "```")[0];
-    (command, printed)
+/// The commands of README.md that are followed by what they print.
+fn examples(readme: &str) -> Vec<(&str, &str)> {
+    let commands = blocks(readme, "```sh").into_iter();
+    let shown = commands.filter_map(|(command, rest)| {
+        let (printed, _) = rest.strip_prefix("\n\n```\n")?.split_once("\n```")?;
+        Some((command, printed))
+    });
+    shown.collect()
 }
 
 /// A folder in which the root's commands and examples are found, and no files of
@@ -48,15 +46,15 @@ fn fresh_folder(name: &str) -> PathBuf {
     folder
 }
 
-/// What a command of a document prints, run in a folder.
-fn shell(command: &str, folder: &Path) -> String {
+/// With which status a command of a document ends, and what it prints.
+fn shell(command: &str, folder: &Path) -> (Option<i32>, String) {
     let output = Command::new("sh")
         .args(["-c", command])
         .current_dir(folder)
         .output()
         .expect("a shell");
-    assert!(output.status.success(), "{command}: {output:?}");
-    String::from_utf8(output.stdout).expect("text")
+    let text = String::from_utf8(output.stdout).expect("text");
+    (output.status.code(), text.trim_end().into())
 }
 
 /// What the desk program prints for a policy file.
@@ -75,21 +73,19 @@ fn desk(policy: &str) -> String {
     String::from_utf8(output.stdout).expect("text")
 }
 
+/// In the second round the night's calls find the journal that the first left.
 #[test]
-fn the_desk_example_of_the_readme_prints_what_it_says() {
+fn the_examples_of_the_readme_print_what_it_says() {
     let readme = fs::read_to_string(root().join("README.md")).expect("README.md");
-    let (command, expected) = example(&readme, "desk");
-    assert_eq!(shell(command, &root()).trim_end(), expected);
-}
-
-/// The second call finds the journal that the first one left.
-#[test]
-fn the_night_example_of_the_readme_prints_what_it_says() {
-    let readme = fs::read_to_string(root().join("README.md")).expect("README.md");
-    let (command, expected) = example(&readme, "night");
-    let folder = fresh_folder("night-example");
-    assert_eq!(shell(command, &folder).trim_end(), expected);
-    assert_eq!(shell(command, &folder).trim_end(), expected);
+    let examples = examples(&readme);
+    assert_eq!(examples.len(), 3);
+    let folder = fresh_folder("readme-examples");
+    for _ in 0..2 {
+        for (command, expected) in &examples {
+            let printed = (Some(0), expected.to_string());
+            assert_eq!(shell(command, &folder), printed, "{command}");
+        }
+    }
 }
 
 #[test]
@@ -109,10 +105,7 @@ fn the_commands_shown_for_the_codes_are_refused_as_they_say() {
     let examples = blocks(&codes, "```sh");
     assert_eq!(examples.len(), 3);
     for (command, rest) in examples {
-        assert_eq!(
-            shell(command, &root()).trim_end(),
-            printed(rest),
-            "{command}"
-        );
+        let refused = (Some(1), printed(rest).to_string());
+        assert_eq!(shell(command, &root()), refused, "{command}");
     }
 }
