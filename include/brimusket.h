@@ -21,8 +21,8 @@
 extern "C" {
 #endif
 
-/* What a run returns. After a refusal: its code and place, kept 0, added 0, not finished, used as it was given; every buffer is
- * byte for byte as it was. */
+/* What a run returns. After a refusal: its code and place, kept 0, added 0, not finished, used as it was given; journal and answers
+ * are byte for byte as they were. */
 typedef struct brimusket_report {
     size_t code;   /* 0, or the code of the refusal, 1 to 8 */
     size_t place;  /* where in the file the refused line starts; 0 where the code names no line */

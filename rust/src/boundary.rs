@@ -1,5 +1,5 @@
 //! The C boundary of the proved library, as `include/brimusket.h` declares it.
-//! All that is `unsafe` in this repository stands here.
+//! All `unsafe` blocks of this repository stand here, one for each function.
 #![allow(unsafe_code)]
 
 use crate::{Dropped, Report, Settlement};

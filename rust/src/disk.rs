@@ -1,13 +1,16 @@
 //! A journal on the disk: its lock, what it holds, and how a new one takes its
 //! place.
 
-use crate::output::{self, cannot, is_same, End, Named};
+use crate::files::{
+    are_apart, behind_links, holds, is_same, make_alike, open_plain, outputs, there, Named,
+};
+use crate::output::{cannot, say, End};
 use std::env;
 use std::ffi::{OsStr, OsString};
 use std::fs::{self, File, Metadata, OpenOptions, TryLockError};
 use std::io::{self, ErrorKind, Read, Write};
 use std::os::unix::ffi::{OsStrExt, OsStringExt};
-use std::os::unix::fs::{fchown, MetadataExt, OpenOptionsExt};
+use std::os::unix::fs::{MetadataExt, OpenOptionsExt};
 use std::path::{Path, PathBuf};
 use std::thread::sleep;
 use std::time::{Duration, Instant};
@@ -20,9 +23,6 @@ const RESERVED: &str = ".brimusket-new";
 /// How long a call waits for another one to end.
 const PATIENCE: Duration = Duration::from_secs(3);
 
-/// Links that lead to each other are not followed for ever.
-const MOST_LINKS: usize = 40;
-
 /// A name has at most 255 bytes; this leaves room for a saved journal's ending.
 const LONGEST_STEM: usize = 255 - ".saved-12345678".len();
 
@@ -32,12 +32,15 @@ const LONGEST_STEM: usize = 255 - ".saved-12345678".len();
 /// each of its names there, no file can be removed to lose it, and it goes with
 /// the process.
 pub struct Held {
+    /// The journal, as it was given.
+    given: PathBuf,
     folder: File,
     path: PathBuf,
     name: OsString,
 }
 
-/// The journal as it was found.
+/// The journal as it was found; nothing where there was none.
+#[derive(Default)]
 pub struct Old {
     file: Option<(File, Metadata)>,
     pub bytes: Vec<u8>,
@@ -47,8 +50,6 @@ pub struct Old {
 /// Only a finished [`Held::replace`] gives this.
 pub struct OnDisk<'h> {
     _held: &'h Held,
-    /// What the old journal is called now, where it was to be saved.
-    pub saved: Option<String>,
 }
 
 /// What failed, and that the journal is as it was.
@@ -58,42 +59,12 @@ pub fn untouched(what: String) -> End {
 
 /// Refuses the program's own name.
 pub fn is_free(name: &OsStr) -> Result<(), End> {
-    if Path::new(name).file_name() == Some(OsStr::new(RESERVED)) {
+    let last = Path::new(name).file_name().unwrap_or_default();
+    if last.eq_ignore_ascii_case(RESERVED) {
         let what = format!("{name:?} is a name that this program keeps for itself");
         return Err(untouched(what));
     }
     Ok(())
-}
-
-/// The folder and the name in a path. One that ends in a slash or a dot names a
-/// folder.
-fn parts(path: &Path) -> Result<(PathBuf, OsString), End> {
-    let bytes = path.as_os_str().as_bytes();
-    let end = bytes.iter().rposition(|byte| *byte == b'/');
-    let (folder, name) = bytes.split_at(end.map_or(0, |end| end + 1));
-    if name.is_empty() || name == b"." || name == b".." {
-        return Err(untouched(format!("{path:?} names no file")));
-    }
-    let folder = if folder.is_empty() { b"." } else { folder };
-    Ok((
-        OsStr::from_bytes(folder).into(),
-        OsStr::from_bytes(name).into(),
-    ))
-}
-
-/// The folder and the name of the file behind a path and behind all symbolic
-/// links that it leads to, whether it is there or not.
-fn behind_links(journal: &Path) -> Result<(PathBuf, OsString), End> {
-    let mut path = journal.to_path_buf();
-    for _ in 0..=MOST_LINKS {
-        let (folder, name) = parts(&path)?;
-        match fs::read_link(&path) {
-            Ok(target) => path = folder.join(target),
-            Err(_) => return Ok((folder, name)),
-        }
-    }
-    let what = format!("{journal:?} leads through more than {MOST_LINKS} symbolic links");
-    Err(untouched(what))
 }
 
 /// Takes the lock, or says why not.
@@ -109,44 +80,31 @@ fn wait_for_lock(folder: &File, shown: &str) -> Result<(), End> {
             Err(TryLockError::WouldBlock) => {
                 let waited = PATIENCE.as_secs();
                 return Err(End::locked(format!(
-                    "another call works in {shown} and did not end within {waited} seconds; \
-                     this one changed nothing: call again"
+                    "another call or program holds the lock of {shown}, also after {waited} seconds; \
+                     nothing was changed: call again"
                 )));
             }
         }
     }
 }
 
-/// Fails where a plain file of the first row is one of the second, too.
-fn are_apart(files: &[Named], others: &[Named]) -> Result<(), End> {
-    for (name, file) in files.iter().filter(|(_, file)| file.is_file()) {
-        if let Some((other, _)) = others.iter().find(|(_, other)| is_same(file, other)) {
-            return Err(untouched(format!("{other} and {name} are one file")));
-        }
-    }
-    Ok(())
-}
-
-/// Gives the new file the owner and the mode of the old one.
-fn make_alike(new: &File, old: &Metadata) -> io::Result<()> {
-    let made = new.metadata()?;
-    if (made.uid(), made.gid()) != (old.uid(), old.gid()) {
-        fchown(new, Some(old.uid()), Some(old.gid()))?;
-    }
-    new.set_permissions(old.permissions())
-}
-
 impl Held {
     /// Locks the folder of the file behind the journal's name.
     pub fn lock(journal: &OsStr) -> Result<Held, End> {
         is_free(journal)?;
-        let (path, name) = behind_links(Path::new(journal))?;
+        let given = PathBuf::from(journal);
+        let (path, name) = behind_links(&given).map_err(untouched)?;
         is_free(&name)?;
         let shown = format!("the folder {path:?}");
         let opened = File::open(&path).map_err(cannot("open", &shown));
         let folder = opened.map_err(untouched)?;
         wait_for_lock(&folder, &shown)?;
-        Ok(Held { folder, path, name })
+        Ok(Held {
+            given,
+            folder,
+            path,
+            name,
+        })
     }
 
     /// A file of the folder, as it is shown.
@@ -172,22 +130,33 @@ impl Held {
         Err(untouched(format!("{shown} was moved: call again")))
     }
 
-    /// Reads the journal; one that is not there is empty.
+    /// The file that the system finds by the journal's name as it was given, which
+    /// must still lead where it led before the lock was taken.
+    fn reached(&self) -> Result<Option<Metadata>, End> {
+        let shown = format!("{:?}", self.given);
+        let (path, name) = behind_links(&self.given).map_err(untouched)?;
+        if (&path, &name) != (&self.path, &self.name) {
+            return Err(untouched(format!(
+                "{shown} leads elsewhere now: call again"
+            )));
+        }
+        let found = there(fs::metadata(&self.given)).map_err(cannot("read", &shown));
+        found.map_err(untouched)
+    }
+
+    /// Reads the journal.
     pub fn read(&self) -> Result<Old, End> {
+        let reached = self.reached()?;
         self.enter()?;
         let shown = self.shown(&self.name);
         let failed = |error| untouched(cannot("read", &shown)(error));
-        let found = match fs::symlink_metadata(&self.name) {
-            Err(error) if error.kind() == ErrorKind::NotFound => {
-                let (file, bytes) = (None, Vec::new());
-                return Ok(Old { file, bytes });
-            }
-            found => found.map_err(failed)?,
-        };
-        if !found.is_file() {
-            return Err(untouched(format!("{shown} is not a plain file")));
+        let found = there(fs::symlink_metadata(&self.name)).map_err(failed)?;
+        match (reached, found) {
+            (None, None) => return Ok(Old::default()),
+            (Some(reached), Some(found)) if is_same(&reached, &found) && found.is_file() => {}
+            _ => return Err(untouched(format!("{shown} is not a plain file"))),
         }
-        let file = File::open(&self.name).map_err(failed)?;
+        let file = open_plain(&self.name).map_err(failed)?;
         let found = file.metadata().map_err(failed)?;
         let mut bytes = Vec::new();
         let most = brimusket::JOURNAL_BYTES;
@@ -202,11 +171,25 @@ impl Held {
         Ok(Old { file, bytes })
     }
 
+    /// Fails where the journal is no longer the file that was read.
+    fn is_as_read(&self, old: &Old) -> Result<(), String> {
+        let shown = self.shown(&self.name);
+        let now = there(fs::symlink_metadata(&self.name)).map_err(cannot("look at", &shown))?;
+        let state = |file: &Metadata| (file.dev(), file.ino(), file.len(), file.modified().ok());
+        let then = old.file.as_ref().map(|(_, found)| state(found));
+        if now.as_ref().map(state) == then {
+            return Ok(());
+        }
+        Err(format!(
+            "another program changed {shown} meanwhile: call again"
+        ))
+    }
+
     /// Refuses a call in which one file would be two things. The journal is going
     /// to be replaced, and what has the program's own name to be removed.
     pub fn keep_apart(&self, old: &Old, policy: Metadata) -> Result<(), End> {
         let policy = [("the policy file".to_string(), policy)];
-        let outputs = output::files();
+        let outputs = outputs();
         let journal = old.file.as_ref().map(|(_, found)| found.clone());
         let left = fs::symlink_metadata(RESERVED).ok();
         let own = [
@@ -215,22 +198,23 @@ impl Held {
         ];
         let own = own.map(|(name, file)| Some((name, file?)));
         let own: Vec<Named> = own.into_iter().flatten().collect();
-        are_apart(&own, &policy)?;
-        are_apart(&own, &outputs)?;
-        are_apart(&policy, &outputs)
+        let apart = are_apart(&own, &policy)
+            .and_then(|()| are_apart(&own, &outputs))
+            .and_then(|()| are_apart(&policy, &outputs));
+        apart.map_err(untouched)
     }
 
-    /// Puts the records in the journal's place, on the disk. Where the old bytes
-    /// are to be saved, the old file is then found under another name.
-    pub fn replace(&self, old: &Old, records: &[u8], save: bool) -> Result<OnDisk<'_>, End> {
+    /// Puts the new journal in the place of the old one, on the disk. Where
+    /// something is dropped, the old file is saved under another name and that is
+    /// said, before it is replaced.
+    pub fn replace(
+        &self,
+        old: &Old,
+        journal: &[u8],
+        dropped: Option<String>,
+    ) -> Result<OnDisk<'_>, End> {
         self.clear()?;
-        let moved = self.write(old, records).and_then(|()| {
-            let saved = if save { self.save(old)? } else { None };
-            let shown = self.shown(&self.name);
-            let moved = fs::rename(RESERVED, &self.name);
-            moved.map_err(cannot("replace", &shown)).map(|()| saved)
-        });
-        let saved = moved.map_err(|what| {
+        let new = self.put(old, journal, dropped).map_err(|what| {
             let _ = fs::remove_file(RESERVED);
             untouched(what)
         })?;
@@ -240,21 +224,36 @@ impl Held {
                  so no answer is given: call again"
             ))
         })?;
-        Ok(OnDisk { _held: self, saved })
+        self.is_in_place(&new).map_err(End::failed)?;
+        Ok(OnDisk { _held: self })
     }
 
     /// Removes what a call that was cut off has left.
     fn clear(&self) -> Result<(), End> {
-        match fs::remove_file(RESERVED) {
-            Err(error) if error.kind() != ErrorKind::NotFound => {
-                Err(untouched(cannot("remove", &self.shown(RESERVED))(error)))
-            }
-            _ => Ok(()),
+        if fs::symlink_metadata(RESERVED).is_err() {
+            return Ok(());
         }
+        let shown = self.shown(RESERVED);
+        let removed = fs::remove_file(RESERVED).map_err(cannot("remove", &shown));
+        removed.map_err(|what| untouched(format!("{what}; remove it by hand")))
     }
 
-    /// Writes the records to a new file, and forces them to the disk.
-    fn write(&self, old: &Old, records: &[u8]) -> Result<(), String> {
+    /// Writes the new journal, saves the old one where that is to be, and renames.
+    fn put(&self, old: &Old, journal: &[u8], dropped: Option<String>) -> Result<File, String> {
+        let new = self.write(old, journal)?;
+        self.is_as_read(old)?;
+        if let (Some(words), Some((file, found))) = (dropped, &old.file) {
+            let saved = self.save(file, found, &old.bytes)?;
+            self.is_as_read(old)?;
+            say(&format!("{words} The old journal stays as {saved}"));
+        }
+        let shown = self.shown(&self.name);
+        fs::rename(RESERVED, &self.name).map_err(cannot("replace", &shown))?;
+        Ok(new)
+    }
+
+    /// Writes the journal to a new file, and forces it to the disk.
+    fn write(&self, old: &Old, journal: &[u8]) -> Result<File, String> {
         let shown = self.shown(RESERVED);
         let mut options = OpenOptions::new();
         options.write(true).create_new(true);
@@ -262,12 +261,30 @@ impl Held {
             options.mode(0o600);
         }
         let mut new = options.open(RESERVED).map_err(cannot("make", &shown))?;
+        new.write_all(journal).map_err(cannot("write", &shown))?;
         if let Some((_, found)) = &old.file {
-            let what = "give the journal's owner and mode to";
-            make_alike(&new, found).map_err(cannot(what, &shown))?;
+            let owned = make_alike(&new, found);
+            owned.map_err(cannot("give the journal's owner and mode to", &shown))?;
         }
-        new.write_all(records).map_err(cannot("write", &shown))?;
-        new.sync_all().map_err(cannot("fsync", &shown))
+        new.sync_all().map_err(cannot("fsync", &shown))?;
+        Ok(new)
+    }
+
+    /// Fails where the journal's name does not lead to the new file.
+    fn is_in_place(&self, new: &File) -> Result<(), String> {
+        let shown = self.shown(&self.name);
+        let look = || {
+            Ok(is_same(
+                &new.metadata()?,
+                &fs::symlink_metadata(&self.name)?,
+            ))
+        };
+        if look().map_err(cannot("look at", &shown))? {
+            return Ok(());
+        }
+        Err(format!(
+            "another program replaced {shown} meanwhile, so no answer is given: call again"
+        ))
     }
 
     /// Forces the folder to the disk, and so the names in it.
@@ -279,20 +296,20 @@ impl Held {
 
     /// Gives the old journal one more name, under which its bytes stay, unless
     /// they stand beside it already. All of it is forced to the disk.
-    fn save(&self, old: &Old) -> Result<Option<String>, String> {
-        let Some((file, _)) = &old.file else {
-            return Ok(None);
-        };
+    fn save(&self, file: &File, found: &Metadata, bytes: &[u8]) -> Result<String, String> {
         let shown = self.shown(&self.name);
-        let saved = file
+        let forced = file
             .sync_all()
-            .and_then(|()| match self.saved_before(old)? {
-                Some(name) => Ok(name),
-                None => self.link(),
-            });
-        let name = saved.map_err(cannot("save the bytes of", &shown))?;
+            .and_then(|()| self.saved_before(found, bytes));
+        let saved = match forced.map_err(cannot("save the bytes of", &shown))? {
+            Some(name) => name,
+            None => self.link().map_err(|error| {
+                let what = cannot("save the bytes of", &shown)(error);
+                format!("{what} (by one more name, a hard link); move it away and call again")
+            })?,
+        };
         self.force()?;
-        Ok(Some(self.shown(name)))
+        Ok(self.shown(saved))
     }
 
     /// How the names of saved journals begin.
@@ -301,25 +318,18 @@ impl Held {
         [&name[..name.len().min(LONGEST_STEM)], b".saved-"].concat()
     }
 
-    /// A saved journal with the same bytes, forced to the disk. One that this call
-    /// is going to print into does not keep them.
-    fn saved_before(&self, old: &Old) -> io::Result<Option<OsString>> {
-        let (stem, outputs) = (self.stem(), output::files());
-        let stays = |found: Metadata| {
-            let is_output = outputs.iter().any(|(_, output)| is_same(output, &found));
-            found.is_file() && found.len() == old.bytes.len() as u64 && !is_output
-        };
+    /// A saved journal with the same bytes and owner, forced to the disk.
+    fn saved_before(&self, old: &Metadata, bytes: &[u8]) -> io::Result<Option<OsString>> {
+        let stem = self.stem();
         let is_saved = |name: &OsString| {
-            name.as_bytes().starts_with(&stem)
-                && fs::symlink_metadata(name).is_ok_and(stays)
-                && fs::read(name).is_ok_and(|bytes| bytes == old.bytes)
+            name.as_bytes().starts_with(&stem) && holds(name, old, bytes).unwrap_or(false)
         };
         let names = fs::read_dir(".")?.map(|entry| Ok(entry?.file_name()));
         let names: Vec<OsString> = names.collect::<io::Result<_>>()?;
         let Some(name) = names.into_iter().find(is_saved) else {
             return Ok(None);
         };
-        File::open(&name)?.sync_all()?;
+        open_plain(&name)?.sync_all()?;
         Ok(Some(name))
     }
 

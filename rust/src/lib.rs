@@ -5,7 +5,7 @@
 //! of a journal, adds the next records and answers the file's queries, a byte
 //! each. [`settle`] makes the same run and gives the text to print in place of the
 //! bytes. Every slice, used length and limit gets an answer; a call that is
-//! refused changes nothing. Neither allocates, keeps anything between calls, or
+//! refused changes neither journal nor answers. Neither allocates, keeps anything between calls, or
 //! needs more than 192 KiB of stack.
 //!
 //! **Before you act on a yes, bring the first `used` bytes of the journal to
@@ -63,7 +63,7 @@ pub const YES: u8 = 1;
 pub const OPEN: u8 = 2;
 
 /// What a call returns. After a refusal: its code and place, kept 0, added 0, not
-/// finished, and `used` as it was given; every buffer is as it was.
+/// finished, and `used` as it was given; journal and answers are as they were.
 #[repr(C)]
 #[derive(Clone, Copy, Debug, PartialEq, Eq)]
 pub struct Report {

@@ -3,23 +3,27 @@
 //!
 //! What is decided, what is written to the journal and which answers are printed
 //! come out of one proved call. This program moves the bytes: it reads, calls,
-//! brings the journal to the disk and only then prints. `disk` has the lock and
-//! the files, `output` what is said.
+//! brings the journal to the disk and only then prints. `call` has that call,
+//! `disk` the lock and the journal, `files` which file is which, `output` what
+//! is said.
 #![deny(unsafe_code)]
 
+mod call;
 mod disk;
+mod files;
 mod output;
 
-use brimusket::{Dropped, Settlement};
-use disk::{Held, OnDisk};
+use brimusket::Dropped;
+use call::{Night, Refused};
+use disk::Held;
+use files::{are_apart, outputs};
 use output::{cannot, say, End};
 use std::env;
 use std::ffi::{OsStr, OsString};
-use std::fs::File;
+use std::fs::Metadata;
 use std::io::{self, Read};
 use std::os::unix::ffi::OsStrExt;
 use std::panic;
-use std::path::Path;
 use std::process::ExitCode;
 
 const HELP: &str = "\
@@ -44,8 +48,10 @@ call again.
 
 fn main() -> ExitCode {
     let words: Vec<OsString> = env::args_os().skip(1).collect();
-    let broken = || End::failed("a fault of the program or the system; call again".into());
-    let ended = panic::catch_unwind(|| command(&words)).unwrap_or_else(|_| Err(broken()));
+    let ended = panic::catch_unwind(|| command(&words)).unwrap_or_else(|_| {
+        let what = "a fault of the program or the system; a journal is the old one or the new one, whole: call again";
+        Err(End::failed(what.into()))
+    });
     let Err(end) = ended else {
         return ExitCode::SUCCESS;
     };
@@ -55,6 +61,7 @@ fn main() -> ExitCode {
 
 /// Does what the words of the command line say.
 fn command(words: &[OsString]) -> Result<(), End> {
+    output::spare(words);
     output::is_open()?;
     let (name, words) = words.split_first().ok_or_else(|| usage("no command"))?;
     let given = Given::read(words)?;
@@ -65,7 +72,7 @@ fn command(words: &[OsString]) -> Result<(), End> {
         }
         _ if given.help => output::print(HELP.as_bytes()),
         (Some("desk"), []) => desk(None, given.questions),
-        (Some("desk"), [policy]) => desk(Some(Path::new(policy)), given.questions),
+        (Some("desk"), [policy]) => desk(Some(policy), given.questions),
         (Some("night"), [policy, journal]) => {
             night(policy, journal, brimusket::ALL, given.questions)
         }
@@ -127,116 +134,76 @@ fn limit_of(word: &OsStr) -> Result<usize, End> {
     }
 }
 
-/// All that the proved call gives.
-struct Settled {
-    settled: Settlement,
-    /// The new journal.
-    records: Vec<u8>,
-    /// What is to be printed.
-    text: Vec<u8>,
-}
-
-/// Makes the proved call.
-fn settle(policy: &[u8], journal: &[u8], limit: usize, questions: bool) -> Settled {
-    let mut records = journal.to_vec();
-    records.resize(brimusket::JOURNAL_BYTES, 0);
-    let mut text = vec![0; brimusket::TEXT_BYTES];
-    let used = journal.len();
-    let settled = brimusket::settle(policy, &mut records, used, limit, questions, &mut text);
-    records.truncate(settled.report.used);
-    text.truncate(settled.length);
-    Settled {
-        settled,
-        records,
-        text,
-    }
-}
-
-/// Reads a policy file. One byte more than the longest may have shows that it is
-/// too long.
-fn read_policy(input: impl Read) -> io::Result<Vec<u8>> {
+/// Reads a policy file, or standard input. One byte more than the longest may
+/// have shows that it is too long.
+fn read_policy(path: Option<&OsStr>) -> io::Result<(Metadata, Vec<u8>)> {
+    let file = output::input(path)?;
     let mut policy = Vec::new();
     let most = brimusket::FILE_BYTES as u64 + 1;
-    input.take(most).read_to_end(&mut policy)?;
-    Ok(policy)
+    (&file).take(most).read_to_end(&mut policy)?;
+    Ok((file.metadata()?, policy))
 }
 
 /// Prints a refusal, and says where to read on.
-fn refused(call: &Settled, policy: &str) -> Result<(), End> {
-    output::print(&call.text)?;
-    let code = call.settled.report.code;
-    Err(End::refused(format!(
-        "{policy} was refused with code {code}, and nothing was changed: docs/CODES.md says what that means and what to do"
-    )))
+fn refuse(refused: Refused, policy: &str) -> End {
+    let code = refused.code;
+    let printed = output::print(&refused.text);
+    printed.err().unwrap_or_else(|| {
+        End::refused(format!(
+            "{policy} was refused with code {code}, and nothing was changed: docs/CODES.md says what that means \
+             and what to do"
+        ))
+    })
 }
 
-/// Says so where there is nothing to answer.
-fn say_if_nothing_is_asked(call: &Settled, policy: &str) {
-    if call.text.is_empty() {
-        say(&format!("{policy} asks no question"));
-    }
-}
-
-/// Answers a policy file from an empty journal, which is then forgotten.
-fn desk(path: Option<&Path>, questions: bool) -> Result<(), End> {
+/// Answers a policy file from an empty journal.
+fn desk(path: Option<&OsStr>, questions: bool) -> Result<(), End> {
     let name = path.map_or("standard input".into(), |path| format!("{path:?}"));
-    let read = match path {
-        Some(path) => File::open(path).and_then(read_policy),
-        None => output::input().and_then(read_policy),
-    };
-    let policy = read.map_err(cannot("read", &name)).map_err(End::failed)?;
-    let call = settle(&policy, &[], brimusket::ALL, questions);
-    if call.settled.report.code != 0 {
-        return refused(&call, &name);
+    let read = read_policy(path).map_err(cannot("read", &name));
+    let (file, policy) = read.map_err(End::failed)?;
+    are_apart(&[(name.clone(), file)], &outputs()).map_err(End::failed)?;
+    let answers = call::desk(&policy, questions).map_err(|refused| refuse(refused, &name))?;
+    if answers.is_empty() {
+        say(&format!("{name} asks no question"));
     }
-    say_if_nothing_is_asked(&call, &name);
-    output::print(&call.text)
+    output::print(&answers)
 }
 
 /// Answers a policy file and keeps the journal. The folder is locked from before
 /// either file is read until the answers are out.
 fn night(policy: &OsStr, journal: &OsStr, limit: usize, questions: bool) -> Result<(), End> {
-    output::spare([policy, journal]);
     disk::is_free(policy)?;
     let held = Held::lock(journal)?;
     let (name, journal) = (format!("{policy:?}"), format!("{journal:?}"));
-    let read = File::open(policy).and_then(|file| Ok((file.metadata()?, read_policy(file)?)));
-    let read = read.map_err(cannot("read", &name));
+    let read = read_policy(Some(policy)).map_err(cannot("read", &name));
     let (file, policy) = read.map_err(disk::untouched)?;
     let old = held.read()?;
     held.keep_apart(&old, file)?;
-    let call = settle(&policy, &old.bytes, limit, questions);
-    if call.settled.report.code != 0 {
-        return refused(&call, &name);
-    }
-    let save = call.settled.dropped == Dropped::More;
-    let on_disk = held.replace(&old, &call.records, save)?;
-    say_what_was_dropped(&call.settled, &on_disk, &name, &journal);
-    say_if_nothing_is_asked(&call, &name);
-    print_answers(&call.text, on_disk)
-}
-
-/// Says what was not kept of the journal, and what that can mean.
-fn say_what_was_dropped(settled: &Settlement, on_disk: &OnDisk, policy: &str, journal: &str) {
-    let (kept, records) = (settled.report.kept, settled.records);
-    match (settled.dropped, &on_disk.saved) {
-        (Dropped::Torn, _) => say(&format!(
+    let called = Night::call(&policy, &old.bytes, limit, questions);
+    let night = called.map_err(|refused| refuse(refused, &name))?;
+    let on_disk = held.replace(&old, &night.journal, dropped(&night, &name, &journal))?;
+    if night.settled.dropped == Dropped::Torn {
+        say(&format!(
             "the last record of {journal} was cut off; all before it is kept"
-        )),
-        (_, Some(saved)) => say(&format!(
-            "kept {kept} of {records} records of {journal}; what stands from byte {} on does not follow from {policy}. \
-             That can mean another policy file, an edited one, or a damaged disk. The old journal is {saved}",
-            kept * brimusket::RECORD_BYTES
-        )),
-        _ => {}
+        ));
     }
-}
-
-/// Prints the answers. They are shown to nobody before the journal is on the disk:
-/// only the finished write gives an `OnDisk`.
-fn print_answers(answers: &[u8], _: OnDisk) -> Result<(), End> {
-    output::print(answers).map_err(|mut end| {
+    if night.is_silent() {
+        say(&format!("{name} asks no question"));
+    }
+    output::print(night.answers(&on_disk)).map_err(|mut end| {
         end.message += "; the journal is safe";
         end
+    })
+}
+
+/// What is said where more than a torn record is dropped, and what that can mean.
+fn dropped(night: &Night, policy: &str, journal: &str) -> Option<String> {
+    let (kept, records) = (night.settled.report.kept, night.settled.records);
+    let from = kept * brimusket::RECORD_BYTES;
+    (night.settled.dropped == Dropped::More).then(|| {
+        format!(
+            "keeps {kept} of {records} records of {journal}; what stands from byte {from} on does not follow from {policy}. \
+             That can mean another policy file, an edited one, or a damaged disk."
+        )
     })
 }

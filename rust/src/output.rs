@@ -1,10 +1,10 @@
 //! What the program says, and with which status it ends.
 
-use std::ffi::OsStr;
-use std::fs::{self, File, Metadata};
+use crate::files::{is_same, kind_of};
+use std::ffi::{OsStr, OsString};
+use std::fs::{self, File};
 use std::io::{self, Write};
-use std::os::fd::{AsFd, BorrowedFd};
-use std::os::unix::fs::MetadataExt;
+use std::os::fd::AsFd;
 use std::sync::atomic::{AtomicBool, Ordering};
 
 /// Why a call ends otherwise than with all of its answers: its status, and a
@@ -55,16 +55,15 @@ pub fn say(message: &str) {
 /// Whether standard error is a file that a message would spoil.
 static SILENT: AtomicBool = AtomicBool::new(false);
 
-/// Says nothing from here on where standard error is one of these files: nobody
-/// would read it there, and the file would be changed.
-pub fn spare(names: [&OsStr; 2]) {
-    let error = of(io::stderr().as_fd());
-    let is_error = |file: Metadata| error.as_ref().is_ok_and(|error| is_same(error, &file));
-    let mut files = names.into_iter().flat_map(fs::metadata);
-    SILENT.store(
-        files.any(|file| file.is_file() && is_error(file)),
-        Ordering::Relaxed,
-    );
+/// Says nothing from here on where standard error is a file that one of these
+/// words names: nobody would read it there, and the file would be changed.
+pub fn spare(words: &[OsString]) {
+    let Ok(error) = kind_of(io::stderr().as_fd()) else {
+        return;
+    };
+    let mut files = words.iter().flat_map(fs::metadata);
+    let is_named = files.any(|file| file.is_file() && is_same(&file, &error));
+    SILENT.store(is_named, Ordering::Relaxed);
 }
 
 /// Whether standard input and standard output were open when the process began.
@@ -74,13 +73,14 @@ pub fn spare(names: [&OsStr; 2]) {
 static OPEN: [AtomicBool; 2] = [const { AtomicBool::new(true) }; 2];
 
 extern "C" fn look() {
-    let folder = fs::symlink_metadata("/proc/self/fd");
-    for (open, name) in OPEN.iter().zip(["/proc/self/fd/0", "/proc/self/fd/1"]) {
-        let found = fs::symlink_metadata(name);
-        open.store(found.is_ok() || folder.is_err(), Ordering::Relaxed);
+    let (input, output) = (io::stdin(), io::stdout());
+    for (open, file) in OPEN.iter().zip([input.as_fd(), output.as_fd()]) {
+        open.store(file.try_clone_to_owned().is_ok(), Ordering::Relaxed);
     }
 }
 
+// SAFETY: what stands in this section is called once before `main`, without
+// arguments; `look` does not panic and uses nothing that `main` sets up.
 #[used]
 #[allow(unsafe_code)]
 #[link_section = ".init_array"]
@@ -96,13 +96,27 @@ pub fn is_open() -> Result<(), End> {
     ))
 }
 
-/// Standard input as a file. The language's own takes one that cannot be read for
-/// one that is empty.
-pub fn input() -> io::Result<File> {
-    if OPEN[0].load(Ordering::Relaxed) {
-        return io::stdin().as_fd().try_clone_to_owned().map(File::from);
+fn closed() -> io::Error {
+    io::Error::other("it is closed")
+}
+
+/// Opens the file of this name, or standard input, past the language's own input,
+/// which takes one that cannot be read for an empty one.
+pub fn input(name: Option<&OsStr>) -> io::Result<File> {
+    let standard = File::from(io::stdin().as_fd().try_clone_to_owned()?);
+    let was_open = OPEN[0].load(Ordering::Relaxed);
+    let Some(name) = name else {
+        return if was_open {
+            Ok(standard)
+        } else {
+            Err(closed())
+        };
+    };
+    let file = File::open(name)?;
+    if !was_open && is_same(&file.metadata()?, &standard.metadata()?) {
+        return Err(closed());
     }
-    Err(io::Error::other("it is closed"))
+    Ok(file)
 }
 
 /// Prints a text. It goes past the buffer of the language's own output, which
@@ -112,23 +126,4 @@ pub fn print(text: &[u8]) -> Result<(), End> {
     let printed = output.and_then(|output| File::from(output).write_all(text));
     let printed = printed.map_err(cannot("write", "standard output"));
     printed.map_err(|what| End::unprinted(format!("{what}; not all is printed: call again")))
-}
-
-/// A file, and what it is called in what is said of it.
-pub type Named = (String, Metadata);
-
-pub fn is_same(one: &Metadata, other: &Metadata) -> bool {
-    (one.dev(), one.ino()) == (other.dev(), other.ino())
-}
-
-fn of(open: BorrowedFd) -> io::Result<Metadata> {
-    File::from(open.try_clone_to_owned()?).metadata()
-}
-
-/// What standard output and standard error are.
-pub fn files() -> Vec<Named> {
-    let output = ("standard output", of(io::stdout().as_fd()));
-    let error = ("standard error", of(io::stderr().as_fd()));
-    let known = [output, error].map(|(name, file)| Some((name.into(), file.ok()?)));
-    known.into_iter().flatten().collect()
 }

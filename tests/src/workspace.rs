@@ -12,7 +12,10 @@ pub fn root() -> PathBuf {
 /// variable `BRIMUSKET_DESK` or `BRIMUSKET_BRIMUSKET` says, or where it is built.
 pub fn program(name: &str) -> PathBuf {
     let (folder, build) = match name {
-        "brimusket" => ("target/cargo/release", "bin/brimusket --version"),
+        "brimusket" => (
+            "target/cargo/x86_64-unknown-linux-gnu/release",
+            "bin/brimusket --version",
+        ),
         _ => ("target/bin", "rt check desk"),
     };
     let built = Path::new(folder).join(name);

@@ -3,6 +3,8 @@
 #![cfg(feature = "proved")]
 
 use against::workspace::root;
+use brimusket::Dropped;
+use std::fs;
 use std::path::Path;
 use std::process::Command;
 
@@ -33,6 +35,36 @@ fn the_second_desk_case_runs_through_the_header() {
         printed("case2"),
         "kept 0, added 4, finished 1, used 36\n1 yes\n2 yes\n3 no\n"
     );
+}
+
+/// The header's constants, as it has them.
+fn constants() -> Vec<(String, usize)> {
+    let header = fs::read_to_string(root().join("include/brimusket.h")).expect("the header");
+    let lines = header.lines().filter_map(|line| {
+        let (name, value) = line.trim().trim_end_matches(',').split_once(" = ")?;
+        Some((name.strip_prefix("BRIMUSKET_")?.into(), value.parse().ok()?))
+    });
+    lines.collect()
+}
+
+#[test]
+fn the_headers_constants_are_those_of_the_crate() {
+    let expected = [
+        ("FILE_BYTES", brimusket::FILE_BYTES),
+        ("RECORD_BYTES", brimusket::RECORD_BYTES),
+        ("JOURNAL_BYTES", brimusket::JOURNAL_BYTES),
+        ("QUERIES", brimusket::QUERIES),
+        ("TEXT_BYTES", brimusket::TEXT_BYTES),
+        ("ALL", brimusket::ALL),
+        ("NO", brimusket::NO.into()),
+        ("YES", brimusket::YES.into()),
+        ("OPEN", brimusket::OPEN.into()),
+        ("NOTHING", Dropped::Nothing as usize),
+        ("TORN", Dropped::Torn as usize),
+        ("MORE", Dropped::More as usize),
+    ];
+    let expected = expected.map(|(name, value)| (name.to_string(), value));
+    assert_eq!(constants(), expected);
 }
 
 #[test]

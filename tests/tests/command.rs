@@ -6,7 +6,7 @@ use against::workspace::root;
 use std::env;
 use std::fs;
 use std::io::Write;
-use std::os::unix::fs::{symlink, PermissionsExt};
+use std::os::unix::fs::symlink;
 use std::path::{Path, PathBuf};
 use std::process::{Child, Command, Output, Stdio};
 use std::sync::atomic::{AtomicUsize, Ordering};
@@ -26,15 +26,17 @@ echo 'rt: brimusket proved (2 s)'
 const CARGO: &str = r#"#!/bin/sh
 cat >/dev/null
 echo "cargo $*" >>calls
-mkdir -p target/cargo/release
-cat >target/cargo/release/brimusket <<'END'
+[ ! -e elsewhere ] || exit 0
+folder=target/cargo/x86_64-unknown-linux-gnu/release
+mkdir -p $folder
+cat >$folder/brimusket <<'END'
 #!/bin/sh
 printf 'process %s:' $$
 printf ' <%s>' "$@"
 cat
 exit 7
 END
-chmod +x target/cargo/release/brimusket
+chmod +x $folder/brimusket
 "#;
 
 /// A made-up repository, removed at the end.
@@ -59,11 +61,17 @@ impl Repository {
         repository
     }
 
+    /// Another process writes it: what this one has open for writing might stay
+    /// open in a child, and could then not be run.
     fn program(&self, name: &str, text: &[u8]) {
-        let path = self.0.join(name);
-        fs::write(&path, text).expect("a program");
-        let mode = fs::Permissions::from_mode(0o755);
-        fs::set_permissions(path, mode).expect("it can be run");
+        let mut write = Command::new("sh");
+        write.args(["-c", "cat >\"$0\" && chmod 755 \"$0\""]);
+        write.arg(self.0.join(name)).stdin(Stdio::piped());
+        let mut child = write.spawn().expect("a shell");
+        let mut input = child.stdin.take().expect("a pipe");
+        input.write_all(text).expect("it takes the text");
+        drop(input);
+        assert!(child.wait().expect("it ends").success());
     }
 
     /// A call of the command by this path, from another folder.
@@ -98,7 +106,7 @@ impl Drop for Repository {
 }
 
 const BUILD: &str = "rt check brimusket\nrt staticlib brimusket\n\
-                     cargo build --offline --release --package brimusket\n";
+                     cargo build --offline --release --target x86_64-unknown-linux-gnu --package brimusket\n";
 
 /// The program alone answers: by its words, its input and its status, and it is
 /// the very process that was called.
@@ -150,6 +158,27 @@ fn a_build_that_fails_is_told_and_nothing_is_called() {
     fs::remove_file(repository.0.join("broken")).expect("it was there");
     let (process, said) = repository.called();
     assert_handed_over(process, &said);
+}
+
+#[test]
+fn a_build_that_leaves_no_program_is_told() {
+    let repository = Repository::new();
+    fs::write(repository.0.join("elsewhere"), "").expect("a file");
+    let (_, said) = repository.called();
+    assert_eq!(said.status.code(), Some(2));
+    let told = String::from_utf8_lossy(&said.stderr);
+    assert!(told.contains("the program is not built"), "{told}");
+}
+
+#[test]
+fn a_copy_of_the_command_elsewhere_makes_nothing_there() {
+    let repository = Repository::new();
+    fs::remove_file(repository.0.join("crates.txt")).expect("it was there");
+    let (_, said) = repository.called();
+    assert_eq!(said.status.code(), Some(2));
+    let told = String::from_utf8_lossy(&said.stderr);
+    assert!(told.contains("there is no repository"), "{told}");
+    assert!(!repository.0.join("target").exists());
 }
 
 #[test]

@@ -10,7 +10,7 @@
 use against::journals::{self, RECORD};
 use against::night::{
     ended, expected, goes_through, has_strace, is_root, policies, stale, started, traced,
-    with_fault, yes_on_record, Dropped, Expected, Folder, Told, ANSWERS, MOST, NIGHT,
+    with_fault, yes_on_record, Dropped, Expected, Folder, Told, MOST, NIGHT,
 };
 use against::rng::Rng;
 use second::slow::Policy;
@@ -217,7 +217,7 @@ fn is_told(said: &Told, whole: &Expected, folder: &Folder, old: &[u8]) {
     let as_it_was = said.words.contains("the journal is as it was");
     match said.status {
         Some(0) => assert_eq!(said.text, whole.text),
-        Some(2) => assert_eq!(said.text, ""),
+        Some(2) => assert!(said.text.is_empty() && (as_it_was || folder.kept() == whole.journal)),
         Some(4) => assert!(folder.kept() == whole.journal && !as_it_was),
         None => assert!(said.text.is_empty() || said.text == whole.text),
         status => panic!("{status:?}"),
@@ -235,7 +235,11 @@ fn fails_and_recovers(old: &[u8], name: &str, error: &str, count: usize) -> bool
     let forced = matches!(name, "fsync" | "rename" | "linkat" | "unlink");
     assert!(said.stdout.is_empty() || !forced, "an answer after {name}");
     yes_on_record(&said.stdout, NIGHT, &folder.kept());
-    is_told(&Told::of(&said), &whole, &folder, old);
+    let said = Told::of(&said);
+    is_told(&said, &whole, &folder, old);
+    // Only where standard error itself could not be written is nothing said.
+    let dropped = whole.dropped == Dropped::More && folder.kept() != old;
+    assert!(!dropped || name == "write" || said.words.contains(".saved-1"));
     goes_through(&folder, MOST);
     assert!(folder.copies(old) <= 1, "two copies");
     let kept = folder.kept();
@@ -266,58 +270,6 @@ fn a_call_in_which_any_system_call_fails_is_told_and_can_be_made_again() {
         }
         assert!(faults > 2 * calls.len(), "only {faults} faults came");
     }
-}
-
-/// A system call of the log, with the names or the open file that it works on.
-fn step(line: &str, place: &str) -> String {
-    let (name, about) = line.split_once('(').unwrap_or_default();
-    let files = match name {
-        "unlink" | "linkat" | "rename" => {
-            let names: Vec<&str> = about.split('"').skip(1).step_by(2).collect();
-            names.join(" ")
-        }
-        _ => {
-            let open = about.split(['<', '>']).nth(1).unwrap_or_default();
-            let file = open.strip_prefix(place).unwrap_or("pipe");
-            file.trim_start_matches('/').to_string()
-        }
-    };
-    format!("{name} {files}")
-}
-
-/// Each change of the disk and each output of a call, in order.
-fn steps(old: &[u8]) -> String {
-    let folder = Folder::night(old);
-    let names = "--trace=flock,unlink,fchmod,write,fsync,linkat,rename";
-    let (said, log) = traced(&folder, &["-y", "-s", "3", names], MOST);
-    assert_eq!(Told::of(&said).text, ANSWERS);
-    let place = folder.0.display().to_string();
-    let lines = log.lines().filter(|line| !line.starts_with('+'));
-    let steps: Vec<String> = lines.map(|line| step(line, &place)).collect();
-    steps.join("\n")
-}
-
-/// The system calls of a call that drops whole records. Those between are left out
-/// where nothing is dropped.
-const STEPS: [&str; 3] = [
-    "flock \nunlink .brimusket-new\nfchmod .brimusket-new\nwrite .brimusket-new\nfsync .brimusket-new\n",
-    "fsync journal\nlinkat journal journal.saved-1\nfsync \n",
-    "rename .brimusket-new journal\nfsync \nwrite pipe",
-];
-
-#[test]
-fn the_journal_is_forced_to_the_disk_under_its_name_before_an_answer_is_printed() {
-    if !has_strace() {
-        return;
-    }
-    let uncut = journals::finished(NIGHT);
-    let [start, save, end] = STEPS;
-    let plain = format!("{start}{end}");
-    assert_eq!(steps(&uncut), plain);
-    assert_eq!(steps(&uncut[..9]), plain);
-    // One write for the answers, and one for what is said of the dropped records.
-    let saving = format!("{start}{save}{end}\nwrite pipe");
-    assert_eq!(steps(&stale()), saving);
 }
 
 /// The words of a call on this journal whose fsync of this count fails.
@@ -357,8 +309,10 @@ fn no_answer_is_given_where_the_disk_confirms_nothing() {
         }
         // A copy that stands there already is forced once more.
         let last = last + usize::from(last == 4);
-        assert_eq!(fsync_fails(&folder, last), not_forced(&whole, in_place));
-        assert!(folder.kept() == expected(NIGHT, old, MOST).journal);
+        let new = expected(NIGHT, old, MOST);
+        let words = new.words(&folder, old) + &not_forced(&whole, in_place);
+        assert_eq!(fsync_fails(&folder, last), words);
+        assert!(folder.kept() == new.journal);
         assert_eq!(folder.copies(old), usize::from(last == 5));
         goes_through(&folder, MOST);
     }
@@ -390,7 +344,7 @@ fn many_callers_at_once_leave_one_whole_journal() {
     for _ in 0..8 {
         for said in four_callers(&folder, limit, rng.below(4_000)) {
             yes_on_record(said.text.as_bytes(), &policy, &folder.kept());
-            assert!(matches!(said.status, None | Some(0)), "{said:?}");
+            assert!(matches!(said.status, None | Some(0 | 3)), "{said:?}");
         }
         let kept = folder.kept();
         assert!(uncut.starts_with(&kept) && kept.len().is_multiple_of(RECORD));

@@ -4,8 +4,8 @@
 
 use against::journals::{self, RECORD};
 use against::night::{
-    brimusket, cannot, expected, fails, goes_through, in_time, is_root, make_fifo, night, policies,
-    set_mode, told, untouched, Folder, Told, ANSWERS, MOST, NIGHT, RESERVED,
+    brimusket, cannot, expected, fails, goes_through, in_time, is_root, leave_out, make_fifo,
+    night, policies, set_mode, told, untouched, Folder, Told, ANSWERS, MOST, NIGHT, RESERVED,
 };
 use against::rng::Rng;
 use std::ffi::OsStr;
@@ -54,7 +54,9 @@ fn answers_and_saves(policy: &[u8], journal: &[u8]) {
     command.arg("--").arg(policy).arg(journal);
     let said = told(command.current_dir(&folder.0));
     assert_eq!((said.status, said.text.as_str()), (Some(0), ANSWERS));
-    assert!(said.words.starts_with("brimusket: kept 0 of 1 records of "));
+    assert!(said
+        .words
+        .starts_with("brimusket: keeps 0 of 1 records of "));
     assert_eq!(said.words.lines().count(), 1, "{}", said.words);
     assert!(fs::read(folder.path(journal)).expect("a journal") == uncut());
     let name = journal.as_bytes();
@@ -159,10 +161,11 @@ fn the_longest_paths_are_taken_and_longer_ones_told() {
         beside.expect("a folder").expect("it is read").count()
     };
     assert_eq!(count(&longest), 2);
-    // A journal's folder alone must have a path that is short enough.
     let longer = deep(&folder, 4_096, "j");
-    assert_eq!(told(&mut night(&policy, &longer)).status, Some(0));
-    assert_eq!(count(&longer), 1);
+    let words = cannot("read", &longer, TOO_LONG);
+    let said = told(&mut night(&policy, &longer));
+    assert_eq!(said, Told::new(2, "", &words));
+    assert_eq!(count(&longer), 0);
     let other = Folder::with(NIGHT);
     let long = deep(&other, 4_095, "policy");
     fs::write(&long, NIGHT).expect("a policy");
@@ -389,6 +392,7 @@ fn a_mask_changes_no_mode_of_a_journal_that_is_there() {
 #[test]
 fn a_caller_who_may_not_give_the_owner_is_told() {
     if !is_root() {
+        leave_out("root: what a caller does who may not keep a journal's owner");
         return;
     }
     let folder = Folder::cut_night();
@@ -401,6 +405,11 @@ fn a_caller_who_may_not_give_the_owner_is_told() {
     answers(&mut command, &folder.journal());
 }
 
+/// What is said where the program's own file cannot be removed.
+fn by_hand(path: &Path, why: &str) -> String {
+    untouched(&format!("cannot remove {path:?}: {why}; remove it by hand"))
+}
+
 #[test]
 fn an_unwritable_folder_is_told() {
     let folder = Folder::cut_night();
@@ -411,7 +420,7 @@ fn an_unwritable_folder_is_told() {
     set_mode(&folder.0, 0o755);
     fs::write(&reserved, b"left").expect("what a crash left");
     set_mode(&folder.0, 0o555);
-    fails(&mut command, &folder, &cannot("remove", &reserved, DENIED));
+    fails(&mut command, &folder, &by_hand(&reserved, DENIED));
     set_mode(&folder.0, 0o755);
     goes_through(&folder, MOST);
 }
@@ -490,7 +499,7 @@ fn a_folder_in_the_place_of_the_programs_own_file_is_told() {
     let folder = Folder::cut_night();
     let reserved = folder.reserved();
     fs::create_dir(&reserved).expect("a folder in its place");
-    let words = cannot("remove", &reserved, "Is a directory");
+    let words = by_hand(&reserved, "Is a directory");
     fails(&mut folder.call(), &folder, &words);
     fs::remove_dir(&reserved).expect("it is there");
     fs::hard_link(folder.journal(), &reserved).expect("a link");
@@ -548,6 +557,9 @@ fn a_standard_error_that_is_the_journal_or_the_policy_gets_no_message() {
         ("journal", "none journal"),
         ("policy", "policy journal"),
         ("policy", "policy none/journal"),
+        ("journal", "policy journal 1O"),
+        ("journal", "-q policy journal"),
+        ("policy", "policy journal 1 2"),
     ];
     for (file, names) in rows {
         let setting = format!("exec 2>>{file}; set -- \"$1\" night {names}");

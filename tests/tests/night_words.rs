@@ -230,8 +230,8 @@ fn dropped_records_are_told_and_saved() {
     let folder = Folder::night(&stale());
     let [policy, journal, saved] = ["policy", "journal", "journal.saved-1"].map(|n| folder.path(n));
     let words = format!(
-        "brimusket: kept 2 of 18 records of {journal:?}; what stands from byte 18 on does not follow from {policy:?}. \
-         That can mean another policy file, an edited one, or a damaged disk. The old journal is {saved:?}\n"
+        "brimusket: keeps 2 of 18 records of {journal:?}; what stands from byte 18 on does not follow from {policy:?}. \
+         That can mean another policy file, an edited one, or a damaged disk. The old journal stays as {saved:?}\n"
     );
     assert_eq!(told(&mut folder.call()), Told::new(0, ANSWERS, &words));
     assert!(fs::read(saved).expect("a copy") == stale());
@@ -245,9 +245,9 @@ fn the_names_are_told_as_they_were_given() {
     let folder = Folder::night(b"x");
     let mut command = night("./policy", "journal");
     let said = told(command.current_dir(&folder.0));
-    let words = "brimusket: kept 0 of 0 records of \"journal\"; what stands from byte 0 on does not follow from \
+    let words = "brimusket: keeps 0 of 0 records of \"journal\"; what stands from byte 0 on does not follow from \
                  \"./policy\". That can mean another policy file, an edited one, or a damaged disk. \
-                 The old journal is \"journal.saved-1\"\n";
+                 The old journal stays as \"journal.saved-1\"\n";
     assert_eq!(said, Told::new(0, ANSWERS, words));
 }
 
@@ -324,6 +324,8 @@ fn a_file_that_is_no_journal_is_told_and_saved() {
     files.extend([
         b"LQ begins like a journal and is none".to_vec(),
         b"LQ\0\0\0\0\0\0\0".to_vec(),
+        b"LQ\n".to_vec(),
+        b"LQ hello".to_vec(),
         b"lq".to_vec(),
         b"LX".to_vec(),
         TEXT.to_vec(),
@@ -409,7 +411,9 @@ fn an_output_that_takes_nothing_is_told_after_the_journal_is_safe() {
         folder.set(TEXT);
         let said = told(&mut folder.after(setting));
         assert_eq!(said.status, Some(4));
-        assert!(said.words.starts_with("brimusket: kept 0 of 2 records of "));
+        assert!(said
+            .words
+            .starts_with("brimusket: keeps 0 of 2 records of "));
         assert!(said.words.ends_with(&words) && folder.copies(TEXT) == 1);
         fs::write(folder.policy(), b"x\n").expect("a policy that is refused");
         let old = folder.contents();
@@ -417,6 +421,21 @@ fn an_output_that_takes_nothing_is_told_after_the_journal_is_safe() {
         assert_eq!(told(&mut folder.after(setting)), Told::new(4, "", &words));
         assert!(folder.contents() == old);
     }
+}
+
+/// A file that may not grow takes the first of 600 lines and no more.
+#[test]
+fn answers_that_are_out_in_part_are_told_after_the_journal_is_safe() {
+    let policy = [b"H b\n".to_vec(), b"Q b\n".repeat(600)].concat();
+    let folder = Folder::with(&policy);
+    let setting = "exec >answers; trap '' XFSZ; ulimit -f 1";
+    let words = unprinted("File too large") + "; the journal is safe\n";
+    assert_eq!(told(&mut folder.after(setting)), Told::new(4, "", &words));
+    assert!(folder.kept() == journals::finished(&policy));
+    let answers = fs::read_to_string(folder.path("answers")).expect("a file");
+    let whole = expected(&policy, &[], MOST).text;
+    assert!(answers.starts_with("1 yes\n") && answers.len() < whole.len());
+    assert!(whole.starts_with(&answers));
 }
 
 #[test]
@@ -582,6 +601,20 @@ fn a_standard_input_that_cannot_be_read_is_no_empty_policy() {
         let said = told(command.current_dir(&folder.0));
         let words = format!("brimusket: cannot read standard input: {why}\n");
         assert_eq!(said, Told::new(2, "", &words));
+    }
+}
+
+#[test]
+fn a_desk_that_would_print_into_its_policy_does_not() {
+    let folder = Folder::with(NIGHT);
+    for (words, name) in [("policy", "\"policy\""), ("<policy", "standard input")] {
+        let mut command = Command::new("sh");
+        let text = format!("exec \"$0\" desk {words} >>policy");
+        command.arg("-c").arg(text).arg(program("brimusket"));
+        let words = format!("brimusket: standard output and {name} are one file\n");
+        let said = told(command.current_dir(&folder.0));
+        assert_eq!(said, Told::new(2, "", &words));
+        assert!(fs::read(folder.policy()).expect("the policy") == NIGHT);
     }
 }
 

@@ -6,13 +6,14 @@
 //! mounted, and what is found there is judged. One more test reads from a log in
 //! which order the system calls come.
 //!
-//! Where nothing can be mounted, a line says so, here and in `target/not-tested`.
+//! Where nothing can be mounted, that is noted as left out.
 #![cfg(feature = "proved")]
 
 use against::journals::{self, RECORD};
 use against::made_up;
+use against::night::{has_strace, leave_out, NIGHT, RESERVED as NEW};
 use against::rng::Rng;
-use against::workspace::{program, root};
+use against::workspace::program;
 use second::fast;
 use std::env;
 use std::fs::{self, File};
@@ -25,11 +26,6 @@ use std::sync::atomic::{AtomicUsize, Ordering};
 use std::sync::OnceLock;
 use std::thread::sleep;
 use std::time::{Duration, Instant};
-
-const NIGHT: &[u8] = include_bytes!("../../examples/night.policy");
-
-/// The program's own name for a new journal.
-const NEW: &str = ".brimusket-new";
 
 /// The system calls after which the program is stopped, but for fsync.
 const CALLS: &str = "openat,unlink,fchown,fchmod,write,linkat,rename";
@@ -47,8 +43,6 @@ const LATE: [&str; 4] = [
 const NEITHER: &str = "neither the old journal nor the new one";
 const EARLY: &str = "the answers are out, and the journal is not the new one";
 const NOWHERE: &str = "the old bytes are nowhere";
-const UNTESTED: &str =
-    "power_cut: this machine allows no mounting: what a power cut leaves was not looked at";
 
 /// Prints a line that is seen also where the test passes.
 fn say(line: &str) {
@@ -60,35 +54,17 @@ fn runs(command: &mut Command) -> bool {
     ended.is_ok_and(|ended| ended.status.success())
 }
 
-/// Without strace little is tested here, so it must be there, unless whoever calls
-/// the tests knows that it is not.
-fn has_strace() -> bool {
-    let wanted = env::var_os("WITHOUT_STRACE").is_none();
-    let found = || runs(Command::new("strace").args(["-o", "/dev/null", "true"]));
-    assert!(!wanted || found(), "no strace: apt-get install strace");
-    wanted
-}
-
-/// Whether a file system in a file can be mounted. If not, this is said once.
+/// Whether a file system in a file can be mounted. If not, this is noted once.
 fn can_mount() -> bool {
     static CAN: OnceLock<bool> = OnceLock::new();
     *CAN.get_or_init(|| {
-        let room = Room::new();
-        let can = Disk::new(&room, LATE[0]).is_some();
+        let mounts = |late| Disk::new(&Room::new(), late).is_some();
+        let can = LATE.into_iter().all(mounts);
         if !can {
-            say(UNTESTED);
-            note_as_untested().expect("target/not-tested is written");
+            leave_out("mke2fs or leave to mount: what a power cut leaves was not looked at");
         }
         can
     })
-}
-
-fn note_as_untested() -> io::Result<()> {
-    let target = root().join("target");
-    fs::create_dir_all(&target)?;
-    let mut notes = File::options();
-    let notes = notes.append(true).create(true);
-    writeln!(notes.open(target.join("not-tested"))?, "{UNTESTED}")
 }
 
 /// A folder of its own for all that a test makes, removed at the end.
@@ -97,8 +73,8 @@ struct Room(PathBuf);
 impl Room {
     fn new() -> Room {
         let name = format!("power-cut-{}-{}", std::process::id(), count());
-        let path = Path::new(env!("CARGO_TARGET_TMPDIR")).join(name);
-        fs::create_dir_all(&path).expect("a new folder");
+        let path = env::temp_dir().join(name);
+        fs::create_dir(&path).expect("a new folder");
         Room(path)
     }
 }

@@ -43,8 +43,8 @@ fn questions(file: &[u8]) -> Vec<String> {
 fn dropped(old: &[u8], kept: usize) -> Dropped {
     match &old[RECORD * kept..] {
         [] => Dropped::Nothing,
-        [b'L'] => Dropped::Torn,
-        [b'L', b'Q', rest @ ..] if rest.len() < RECORD - 2 => Dropped::Torn,
+        [b'L'] | [b'L', b'Q'] => Dropped::Torn,
+        [b'L', b'Q', 1..=8, rest @ ..] if rest.len() < RECORD - 3 => Dropped::Torn,
         _ => Dropped::More,
     }
 }
@@ -180,8 +180,11 @@ fn foreign_bytes_are_told_from_a_torn_record() {
     };
     for first in [0, b'K', b'L', b'M', b'Q', 255] {
         for second in [0, b'P', b'Q', b'R', b'L'] {
-            for length in 1..RECORD {
-                let mut rest = vec![first, second, 1, 0, 0, 0, 0, 0];
+            for (rule, length) in [0, 1, 8, 9, 255]
+                .iter()
+                .flat_map(|rule| (1..RECORD).map(move |n| (*rule, n)))
+            {
+                let mut rest = vec![first, second, rule, 0, 0, 0, 0, 0];
                 rest.truncate(length);
                 for kept in [&good[..0], &good] {
                     let case = cases::from_journal(file, &[kept, &rest[..]].concat());

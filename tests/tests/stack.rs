@@ -2,7 +2,6 @@
 //! has no more than the documents promise.
 #![cfg(feature = "proved")]
 
-use against::engine::under_test;
 use against::made_up;
 use against::rng::Rng;
 use std::thread;
@@ -11,19 +10,35 @@ use std::thread;
 /// too, so that the call gets less.
 const STACK_BYTES: usize = 192 * 1024;
 
-#[test]
-fn a_call_fits_the_stack_that_is_promised() {
+/// Does something with a large file on a thread with this stack.
+fn on_that_stack(call: fn(&[u8])) {
     let file = made_up::large(&mut Rng::new(7));
     thread::Builder::new()
         .stack_size(STACK_BYTES)
-        .spawn(move || {
-            let mut journal = vec![0; 36_864];
-            let mut answers = vec![0; 1_024];
-            let report = under_test(&file, &mut journal, 0, 4_096, &mut answers);
-            assert_eq!(report.code, 0);
-            assert!(report.finished);
-        })
+        .spawn(move || call(&file))
         .expect("a thread")
         .join()
         .expect("the call returned");
+}
+
+#[test]
+fn a_run_fits_the_stack_that_is_promised() {
+    on_that_stack(|file| {
+        let mut journal = vec![0; brimusket::JOURNAL_BYTES];
+        let mut answers = vec![0; brimusket::QUERIES];
+        let report = brimusket::run(file, &mut journal, 0, brimusket::ALL, &mut answers);
+        assert_eq!(report.code, 0);
+        assert!(report.finished);
+    });
+}
+
+#[test]
+fn a_settled_call_fits_the_stack_that_is_promised() {
+    on_that_stack(|file| {
+        let mut journal = vec![0; brimusket::JOURNAL_BYTES];
+        let mut text = vec![0; brimusket::TEXT_BYTES];
+        let settled = brimusket::settle(file, &mut journal, 0, brimusket::ALL, true, &mut text);
+        assert_eq!(settled.report.code, 0);
+        assert!(settled.length > 0);
+    });
 }

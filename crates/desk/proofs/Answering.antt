@@ -6,10 +6,11 @@ use mathlib.Core.List.{List}
 use lib.ListN.{length, replicate}
 use borrow.Author.Tests.{le-ltb}
 use Rattle.printing.specs.Placed.{Prints}
-use Rattle.settling.specs.Settled.{textBytes, answerRoom, settledRun, settledText}
+use Rattle.printing.specs.Printed.{printedOf}
+use Rattle.settling.specs.Settled.{textBytes, answerRoom, settledRun, textOf, settledText}
 use Rattle.desk.specs.Desk.{deskRun, deskText}
 
 pub settled-desk : (file text : List ℕ) → 65536 ≤ length text → (n : ℕ) (printed : List ℕ)
     → Prints (settledText file (replicate 36864 0) 0 4096 false text) text n printed → Prints (deskText file) text n printed
-unfolding settledText settledRun answerRoom textBytes deskText deskRun
+unfolding settledText textOf settledRun answerRoom textBytes deskText deskRun printedOf
 settled-desk file text long n printed p = rw (le-ltb (length text) 65536 long) at p

@@ -12,7 +12,7 @@ use super::walk::next_spot;
 use super::walk::own_end;
 use spelling::Parsed;
 ghost use mathlib.Core.Path.{_≡_};
-ghost use Prim.Native.Nat.{ℕ, _+_, _≤_, _<_};
+ghost use Prim.Native.Nat.{_≤_, _<_};
 ghost use lib.ListN.{length};
 ghost use Rattle.infon.specs.Policy.{entriesOf, passed, code2, code3};
 ghost use Rattle.nodes.specs.Nodes.{nodeCell};

@@ -1,6 +1,6 @@
 // The policy file: codes 1 to 3 over its bytes, the table of its nodes, and code 4 over that table.
 mod filling;
-pub mod lines;
+mod lines;
 mod table;
 mod walk;
 
@@ -8,12 +8,13 @@ use filling::fill_above;
 use filling::fill_ends;
 use filling::fill_spots;
 use lines::first_malformed;
+pub use lines::line_end;
 use table::DEPTH;
 use table::LINE;
 use table::cell;
 use walk::too_many;
 ghost use mathlib.Core.Path.{_≡_};
-ghost use Prim.Native.Nat.{ℕ, _≤_};
+ghost use Prim.Native.Nat.{_≤_};
 ghost use lib.ListN.{length};
 ghost use Rattle.infon.specs.Policy.{entriesOf, passed, andThen, code1, code2, code3};
 ghost use Rattle.policy.specs.Codes.{verdictOf};

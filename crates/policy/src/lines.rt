@@ -1,7 +1,7 @@
 // The lines of a file: where each ends, whether it is well formed, and code 2.
 use super::Verdict;
 ghost use mathlib.Core.Path.{_≡_};
-ghost use Prim.Native.Nat.{ℕ, suc, _+_, _-_, _≤_, _<_};
+ghost use Prim.Native.Nat.{suc, _+_, _≤_, _<_};
 ghost use lib.ListN.{length, take, drop};
 ghost use Rattle.infon.specs.Policy.{sentenceOf, isSome, code2};
 ghost use Rattle.policy.specs.Codes.{verdictOf};

@@ -1,7 +1,7 @@
 // The node table: seven columns of 1,024 cells, one column behind the other.
 use nodes::ROWS;
 ghost use mathlib.Core.Path.{_≡_};
-ghost use Prim.Native.Nat.{ℕ, _<_};
+ghost use Prim.Native.Nat.{_<_};
 ghost use lib.ListN.{length};
 ghost use Rattle.policy.specs.Filling.{cellAt, put, tableSize, spotted, abovePut};
 

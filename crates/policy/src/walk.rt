@@ -2,7 +2,7 @@
 use super::Verdict;
 use spelling::Parsed;
 ghost use mathlib.Core.Path.{_≡_};
-ghost use Prim.Native.Nat.{ℕ, _+_, _≤_, _<_};
+ghost use Prim.Native.Nat.{_<_};
 ghost use lib.ListN.{length};
 ghost use Rattle.infon.specs.Policy.{entriesOf, passed, code2, code3};
 ghost use Rattle.policy.specs.Codes.{verdictOf};

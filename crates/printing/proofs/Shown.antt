@@ -1,16 +1,18 @@
--- Rows of answers and refusals as they are printed, and what is printed of a run: a line for each query, no more and no fewer.
+-- Rows of answers and refusals as they are printed; where the line of a query stands; and what is printed of a run: its refusal, or
+-- the lines of the answers to its queries, whatever stood in the answer row before.
 -- Assumes nothing.
-use Prim.Native.Nat.{ℕ, _+_, _≤_}
+use Prim.Native.Nat.{ℕ, zero, suc, _+_, _≤_, _<_}
+use native.Mathlib.Nat.{add-zero}
 use native.Mathlib.Omega.{arith}
-use mathlib.Core.Path.{_≡_, refl, _∙_, ap}
+use mathlib.Core.Path.{_≡_, refl, sym, _∙_, ap}
 use mathlib.Core.Bool.{Bool, true, false}
-use mathlib.Core.List.{List, [], _∷_, _++_, map}
-use lib.ListN.{length, drop, length-map}
+use mathlib.Core.List.{List, [], _∷_, _++_, map, append-assoc}
+use lib.ListN.{length, take, drop, getD, length-map}
 use borrow.Author.Tests.{ne-eqb}
 use Rattle.infon.specs.declared.Answer.{Answer}
 use Rattle.infon.specs.declared.Answer.the-variants.{No, Yes, Open}
 use Rattle.infon.specs.Bytes.{bytes, space, lineFeed}
-use Rattle.infon.specs.Formula.{Formula, said, name, quoted, letterOf, words, joined, spelling}
+use Rattle.infon.specs.Formula.{Formula, True, said, name, quoted, letterOf, words, joined, spelling}
 use Rattle.infon.specs.Policy.{entriesOf, hypothesesOf, queriesOf}
 use Rattle.infon.specs.Listing.{listOf}
 use Rattle.infon.specs.Journal.{keptOf, grown}
@@ -50,6 +52,38 @@ pub refused-printed : (asked : Bool) (file : List ℕ) (o : Outcome) → 1 ≤ o
     → printedOf asked file o ≡ printedRefusal (o .report .code) (o .report .place)
 unfolding printedOf printedRun
 refused-printed asked file o h = rw (ne-eqb (o .report .code) 0 (λ e. omega arith))
+
+-- the lines before a query's, its own, and those behind it, where the first has this count
+parted-at : (asked : Bool) (count : ℕ) (answers : List ℕ) (queries : List Formula) (i : ℕ) → i < length answers → i < length queries
+    → printedFrom count answers (map (behindOf asked) queries)
+    ≡ printedFrom count (take i answers) (map (behindOf asked) (take i queries))
+    ++ (lineOf (count + i) (getD answers i 0) (behindOf asked (getD queries i True))
+    ++ printedFrom (count + i + 1) (drop (suc i) answers) (map (behindOf asked) (drop (suc i) queries)))
+unfolding printedFrom
+parted-at asked count [] queries i few low = absurd (omega arith)
+parted-at asked count (a ∷ answers) [] i few low = absurd (omega arith)
+parted-at asked count (a ∷ answers) (x ∷ queries) zero few low = rw (add-zero count)
+parted-at asked count (a ∷ answers) (x ∷ queries) (suc i) few low =
+    let line = lineOf count a (behindOf asked x) in
+    let before = printedFrom (count + 1) (take i answers) (map (behindOf asked) (take i queries)) in
+    let onward : ℕ → List ℕ = λ (n : ℕ).
+    lineOf n (getD answers i 0) (behindOf asked (getD queries i True))
+    ++ printedFrom (n + 1) (drop (suc i) answers) (map (behindOf asked) (drop (suc i) queries)) in
+    let next : count + 1 + i ≡ count + suc i = omega arith in
+    ap (λ (l : List ℕ). line ++ l) (parted-at asked (count + 1) answers queries i (omega arith) (omega arith))
+    ∙ (sym (append-assoc line before (onward (count + 1 + i))) ∙ ap (λ (n : ℕ). (line ++ before) ++ onward n) next)
+
+-- The text is the lines of the queries before a query, the line of that query, and the lines of those behind it.
+pub line-of-query : (asked : Bool) (queries : List Formula) (answers : List ℕ) (i : ℕ) → i < length queries → i < length answers
+    → printedAnswers asked queries answers
+    ≡ printedAnswers asked (take i queries) (take i answers)
+    ++ (lineOf (i + 1) (getD answers i 0) (behindOf asked (getD queries i True))
+    ++ printedFrom (i + 2) (drop (suc i) answers) (map (behindOf asked) (drop (suc i) queries)))
+unfolding printedAnswers
+line-of-query asked queries answers i low few =
+    let counted : 1 + i ≡ i + 1 = omega arith in
+    let next : 1 + i + 1 ≡ i + 2 = omega arith in
+    rw (sym counted, sym next) (parted-at asked 1 answers queries i few low)
 
 -- where there is an answer for each query, what stands behind the answers is not printed
 printed-front : (count : ℕ) (answers rest : List ℕ) (behinds : List (List ℕ)) → length answers ≡ length behinds

@@ -1,4 +1,4 @@
--- What one line of the file adds to the text.
+-- What a file must be so that its answers can be printed, and what one line of it adds to the text.
 use Prim.Native.Nat.{ℕ, _+_, _-_, _*_, _≤_}
 use mathlib.Core.Path.{_≡_}
 use mathlib.Core.Bool.{Bool, cond}
@@ -9,6 +9,11 @@ use Rattle.infon.specs.Policy.{passed, code2}
 use Rattle.printing.specs.Placed.{Put}
 use Rattle.printing.specs.Printed.{lineOf}
 use Rattle.printing.specs.declared.Progress.{Progress}
+
+-- the lines of a file are well formed, and there is room for an answer to each of so many and for the file's questions
+pub record Printable (file answers out : List ℕ) : Type 0 where
+  pub lines : code2 file ≡ passed
+  pub room : 32 * length answers + length file ≤ length out
 
 -- where the part of the file begins that stands behind an answer: with the space after the letter, or at the line's end, where
 -- there is nothing left of it
@@ -29,8 +34,3 @@ letterOfQueries = 0x51
 pub record Turned (file : List ℕ) (start end : ℕ) (asked : Bool) (answers : List ℕ) (count at : ℕ) (before : List ℕ) (next : Progress) (after : List ℕ) : Type 0 where
   pub counts : next .count ≡ cond (eqb (getD file start 0) letterOfQueries) (count + 1) count
   pub puts : Put (cond (eqb (getD file start 0) letterOfQueries) (queryLine file start end asked answers count) []) at before (next .at) after
-
--- the lines of a file are well formed, and there is room for an answer to each of so many and for the file's questions
-pub record Printable (file answers out : List ℕ) : Type 0 where
-  pub lines : code2 file ≡ passed
-  pub room : 32 * length answers + length file ≤ length out

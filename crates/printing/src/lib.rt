@@ -1,8 +1,8 @@
 // What is printed of a run, on slices: a line for each query, with its question where it is asked for, or the line of a refusal.
 ghost use mathlib.Core.Path.{_≡_};
-ghost use Prim.Native.Nat.{_+_, _-_, _*_, _≤_, _<_};
+ghost use Prim.Native.Nat.{_+_, _-_, _≤_, _<_};
 ghost use lib.ListN.{length};
-ghost use Rattle.infon.specs.Policy.{entriesOf, queriesOf, passed, code2};
+ghost use Rattle.infon.specs.Policy.{entriesOf, queriesOf};
 ghost use Rattle.printing.specs.Placed.{Put, Prints};
 ghost use Rattle.printing.specs.Printed.{decimalOf, wordOf, lineOf, printedAnswers, printedRefusal, printedRun};
 ghost use Rattle.printing.specs.Turned.{behindFrom, Turned, Printable};
@@ -99,9 +99,8 @@ fn put_query(
 
 // Prints the answers to a file's queries, a line each, with the questions where they are asked for, and returns the length of the
 // text. Queries that have no answer are left out, and so are answers that have no query.
-pub fn print_answers(file: &[u8], asked: bool, answers: &[u8], out: &mut [u8]) -> usize
-    requires { ⌜ code2 (now file) ≡ passed ⌝ }
-    requires { ⌜ 32 * length (now answers) + length (now file) ≤ length (now out) ⌝ }
+fn print_answers(file: &[u8], asked: bool, answers: &[u8], out: &mut [u8]) -> usize
+    requires { ⌜ Printable (now file) (now answers) (now out) ⌝ }
     ensures { λ r. ⌜ Prints (printedAnswers asked (queriesOf (entriesOf (now (file .entry)))) (now (answers .entry))) (now (out .entry)) r (now (out .exit)) ⌝ }
 {
     let mut at = 0;
@@ -111,7 +110,7 @@ pub fn print_answers(file: &[u8], asked: bool, answers: &[u8], out: &mut [u8]) -
         if answers.len() <= count {
             return at;
         }
-        let end = policy::lines::line_end(file, start);
+        let end = policy::line_end(file, start);
         let next = put_query(file, start, end, asked, answers, count, out, at);
         at = next.at;
         count = next.count;
@@ -121,7 +120,7 @@ pub fn print_answers(file: &[u8], asked: bool, answers: &[u8], out: &mut [u8]) -
 }
 
 // Prints a refusal's line, and returns its length.
-pub fn print_refusal(code: usize, place: usize, out: &mut [u8]) -> usize
+fn print_refusal(code: usize, place: usize, out: &mut [u8]) -> usize
     requires { ⌜ 64 ≤ length (now out) ⌝ }
     ensures { λ r. ⌜ Prints (printedRefusal code place) (now (out .entry)) r (now (out .exit)) ⌝ }
 {

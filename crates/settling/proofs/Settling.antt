@@ -3,29 +3,26 @@
 use Prim.Native.Nat.{ℕ, zero, suc, _≤_, _<_}
 use native.Mathlib.Omega.{arith}
 use mathlib.Core.Path.{_≡_, refl, sym, _∙_, ap}
-use mathlib.Core.Bool.{Bool, true, false, cond}
-use mathlib.Core.Logic.{⊎-elim}
-use mathlib.Core.List.{List, [], _∷_, _++_}
+use mathlib.Core.Bool.{Bool}
+use mathlib.Core.List.{List, _∷_, _++_}
 use lib.ListN.{length, take, replicate, length-append}
-use lib.Dec.{eqb, ltb}
 use lib.Seq.{take-at}
-use borrow.Author.Tests.{lt-ltb, le-ltb, eqb-true}
+use borrow.Author.Tests.{lt-ltb, le-ltb}
 use Rattle.infon.specs.declared.Report.{Report}
 use Rattle.infon.specs.Policy.{entriesOf, passed, andThen, mostBytes, code1, code2, code3, code4}
 use Rattle.infon.specs.Listing.{code5}
 use Rattle.infon.specs.Run.{Outcome, fileVerdict, run}
-use Rattle.infon.proofs.Rows.{decided}
 use Rattle.infon.proofs.Cuts.{andThen-passed, code-accepted}
-use Rattle.infon.proofs.Refusals.{file-too-long, used-too-long, accepted-exactly}
+use Rattle.infon.proofs.Refusals.{file-too-long, accepted-exactly}
 use Rattle.printing.specs.Placed.{Prints}
-use Rattle.printing.specs.Printed.{printedRun, printedOf}
+use Rattle.printing.specs.Printed.{printedRun}
 use Rattle.printing.specs.Turned.{Printable}
 use Rattle.printing.proofs.Placing.{put-nothing, put-prints}
 use Rattle.run.specs.Prepared.{left}
 use Rattle.settling.specs.declared.Settlement.{Settlement}
-use Rattle.settling.specs.Settled.{textBytes, answerRoom, settledRun, settledText, restOf, isBegun, droppedOf, Settles}
-use Rattle.settling.specs.Telling.{droppedBy, settlementOf, Shows, textOf}
-use Rattle.settling.proofs.Telling.{dropped-told, room-few}
+use Rattle.settling.specs.Settled.{textBytes, answerRoom, settledRun, textOf, settledText, restOf, isBegun, droppedOf, Settles}
+use Rattle.settling.specs.Telling.{settlementOf, Shows}
+use Rattle.settling.proofs.Telling.{room-few}
 
 -- the text is shown where it is long enough
 module _ (asked : Bool) (file : List ℕ) (code place : ℕ) (answers text : List ℕ) where
@@ -58,14 +55,13 @@ module _ (file journal : List ℕ) (used limit : ℕ) (answers : List ℕ) (acce
       let long : mostBytes < length file → ⊥ = λ h. accepted-exactly file journal used limit answers .0 accepted 1 0 (file-too-long h) in
       omega arith
 
-  pub used-inside : used ≤ length journal
-  used-inside =
-      let over : length journal < used → ⊥ = λ h. accepted-exactly file journal used limit answers .0 accepted 7 0 (used-too-long h) in
-      omega arith
-
 -- the answer row before a run
 abbrev pub zeros : ℕ → List ℕ
 zeros n = replicate n 0
+
+-- the same for a text
+abbrev pub rowFor : List ℕ → List ℕ
+rowFor text = zeros (answerRoom text)
 
 -- its front, put back before the rest of it
 module _ (row rest : List ℕ) (n : ℕ) (long : length row ≡ n) where
@@ -107,37 +103,27 @@ module _ (file journal : List ℕ) (used limit : ℕ) (asked : Bool) (text : Lis
             (lines-good file journal used limit (take room (zeros 1024)) zero-code, file-short file journal used limit (take room (zeros 1024)) zero-code);
       }
 
-  told-dropped : cond (eqb (report .code) 0) (droppedBy used (report .kept) (isBegun (restOf journal used))) 0
-      ≡ cond (eqb (report .code) 0) (droppedOf journal used (report .kept)) 0
-  told-dropped =
-      ⊎-elim
-      (λ (e : eqb (report .code) 0 ≡ true).
-      let zero-code = sym code-now ∙ eqb-true (report .code) 0 e in
-      rw (dropped-told journal used (report .kept) (used-inside file journal used limit (take room (zeros 1024)) zero-code)))
-      (λ (e : eqb (report .code) 0 ≡ false). rw e)
-      (decided (eqb (report .code) 0))
-
   told-text : textOf asked file (report .code) (report .place) answers text ≡ settledText file journal used limit asked text
-  unfolding textOf settledText printedOf
-  told-text = ap (λ (o : Outcome). cond (ltb (length text) textBytes) [] (printedOf asked file o)) ran-so
+  unfolding settledText
+  told-text = ap (λ (o : Outcome). textOf asked file (o .report .code) (o .report .place) (o .answers) text) ran-so
 
   pub settled-so : (begun : Bool) → begun ≡ isBegun (restOf journal used) → (n : ℕ) (part printed : List ℕ) → part ≡ answers
       → Prints (textOf asked file (report .code) (report .place) part text) text n printed → (settled : Settlement) → settled ≡ settlementOf report used begun n
       → Settles file journal used limit asked text settled after printed
-  unfolding settlementOf
+  unfolding settlementOf droppedOf
   settled-so begun told-begun n part printed same p settled e =
       rw (e, told-begun)
       record {
         report-now = ap (λ (o : Outcome). o .report) ran-so;
         journal-now = ap (λ (o : Outcome). o .journal) ran-so;
         records-had = refl;
-        dropped-now = told-dropped;
+        dropped-now = refl;
         prints = rw (sym told-text, sym same) p;
       }
 
--- of a settled call that was not refused: its run was not either
-module _ (file journal : List ℕ) (used limit : ℕ) (asked : Bool) (text : List ℕ) (settled : Settlement) (after printed : List ℕ)
-    (settles : Settles file journal used limit asked text settled after printed) (accepted : settled .report .code ≡ 0) where
-  pub accepted-run : run file journal used limit (zeros (answerRoom text)) .report .code ≡ 0
-  unfolding settledRun
-  accepted-run = ap (λ (r : Report). r .code) (sym (settles .report-now)) ∙ accepted
+-- where a settled call was not refused, its run was not either
+pub accepted-run : {file journal : List ℕ} {used limit : ℕ} {asked : Bool} {text : List ℕ} {settled : Settlement} {after printed : List ℕ}
+    → Settles file journal used limit asked text settled after printed → settled .report .code ≡ 0
+    → run file journal used limit (rowFor text) .report .code ≡ 0
+unfolding settledRun
+accepted-run settles accepted = ap (λ (r : Report). r .code) (sym (settles .report-now)) ∙ accepted

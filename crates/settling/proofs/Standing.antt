@@ -1,22 +1,20 @@
--- What `dropped` says of the journal's bytes: where nothing was dropped, all that were in use still stand; where only a last record
--- that was cut off was, all whole records do.
+-- What `dropped` says of the journal's bytes. Where it is 0, all bytes that were in use before the call are in use after it, and are the
+-- same. Where it is at most 1, this holds of the bytes of all whole records.
 -- Assumes nothing.
 use Prim.Native.Nat.{ℕ, _*_, _/_, _%_, _≤_}
 use native.Mathlib.Omega.{arith}
 use mathlib.Core.Path.{_≡_, refl, sym, _∙_, ap}
 use mathlib.Core.Bool.{Bool, true, false, cond}
 use mathlib.Core.List.{List}
-use lib.ListN.{length, take}
+use lib.ListN.{length, take, length-append}
 use lib.Dec.{eqb, ltb}
 use lib.Seq.{take-take}
 use borrow.Author.Tests.{eq-eqb, eqb-true, ltb-false}
 use Rattle.infon.specs.Journal.{recordBytes}
-use Rattle.infon.specs.Run.{run}
-use Rattle.infon.proofs.Demands.{keptIn, keeps, kept-stay}
+use Rattle.infon.proofs.Demands.{keptIn, addedIn, leftIn, keeps, kept-stay, uses}
 use Rattle.settling.specs.declared.Settlement.{Settlement}
-use Rattle.settling.specs.Settled.{answerRoom, settledRun, restOf, isBegun, droppedOf, Settles}
-use Rattle.settling.proofs.Settling.{zeros, used-inside, accepted-run}
-use Rattle.settling.proofs.Telling.{rest-long}
+use Rattle.settling.specs.Settled.{settledRun, restOf, isBegun, droppedBy, droppedOf, Settles}
+use Rattle.settling.proofs.Settling.{rowFor, accepted-run}
 
 -- how the three numbers come about
 picked : (few none-left begun : Bool) (n : ℕ) → n ≡ cond few 2 (cond none-left 0 (cond begun 1 2)) → n ≤ 1 → (few ≡ false) × (n ≡ 0 → none-left ≡ true)
@@ -35,39 +33,39 @@ more-records m n h = omega arith
 
 module _ (file journal : List ℕ) (used limit : ℕ) (asked : Bool) (text : List ℕ) (settled : Settlement) (after printed : List ℕ)
     (settles : Settles file journal used limit asked text settled after printed) (accepted : settled .report .code ≡ 0) where
-  abbrev row : List ℕ
-  row = zeros (answerRoom text)
-
-  ran : run file journal used limit row .report .code ≡ 0
-  ran = accepted-run file journal used limit asked text settled after printed settles accepted
-
-  dropped-is : settled .dropped ≡ droppedOf journal used (settled .report .kept)
-  dropped-is = settles .dropped-now ∙ rw (eq-eqb (settled .report .code) 0 accepted)
-
   by-number : settled .dropped ≤ 1
-      → (ltb (settled .report .kept) (used / recordBytes) ≡ false) × (settled .dropped ≡ 0 → eqb (length (restOf journal used)) 0 ≡ true)
-  unfolding droppedOf
+      → (ltb (settled .report .kept) (used / recordBytes) ≡ false) × (settled .dropped ≡ 0 → eqb (used % recordBytes) 0 ≡ true)
+  unfolding droppedOf droppedBy
   by-number h =
-      picked (ltb (settled .report .kept) (used / recordBytes)) (eqb (length (restOf journal used)) 0) (isBegun (restOf journal used)) (settled .dropped) dropped-is h
+      picked (ltb (settled .report .kept) (used / recordBytes)) (eqb (used % recordBytes) 0) (isBegun (restOf journal used)) (settled .dropped)
+      (settles .dropped-now ∙ rw (eq-eqb (settled .report .code) 0 accepted)) h
 
-  -- at most a record that was cut off: the whole records stand
-  pub records-stand : settled .dropped ≤ 1 → take (recordBytes * (used / recordBytes)) after ≡ take (recordBytes * (used / recordBytes)) journal
+  -- at most a record that was cut off is dropped: the bytes of the whole records are in use after the call, and are the same
+  pub records-stand : settled .dropped ≤ 1
+      → (recordBytes * (used / recordBytes) ≤ settled .report .used)
+      × (take (recordBytes * (used / recordBytes)) after ≡ take (recordBytes * (used / recordBytes)) journal)
   unfolding settledRun
   records-stand h =
+      let ran = accepted-run settles accepted in
       let whole = recordBytes * (used / recordBytes) in
-      let kept = recordBytes * length (keptIn file journal used) in
-      let counted : settled .report .kept ≡ length (keptIn file journal used) =
-      ap (λ r. r .kept) (settles .report-now) ∙ keeps file journal used limit row ran in
-      let all : used / recordBytes ≤ length (keptIn file journal used) =
-      rw counted at (ltb-false (settled .report .kept) (used / recordBytes) (by-number h .0)) in
-      let fits : whole ≤ kept = more-records (used / recordBytes) (length (keptIn file journal used)) all in
-      let stay : take kept after ≡ take kept journal = ap (take kept) (settles .journal-now) ∙ kept-stay file journal used limit row ran in
-      sym (take-take whole kept after fits) ∙ (ap (take whole) stay ∙ take-take whole kept journal fits)
+      let count = length (keptIn file journal used) in
+      let kept = recordBytes * count in
+      let counted : settled .report .kept ≡ count =
+      ap (λ r. r .kept) (settles .report-now) ∙ keeps file journal used limit (rowFor text) ran in
+      let all : used / recordBytes ≤ count = rw counted at (ltb-false (settled .report .kept) (used / recordBytes) (by-number h .0)) in
+      let fits : whole ≤ kept = more-records (used / recordBytes) count all in
+      let in-use : settled .report .used ≡ recordBytes * length (leftIn file journal used limit) =
+      ap (λ r. r .used) (settles .report-now) ∙ uses file journal used limit (rowFor text) ran in
+      let among : used / recordBytes ≤ length (leftIn file journal used limit) =
+      omega (arith, length-append (keptIn file journal used) (addedIn file journal used limit)) in
+      let stay : take kept after ≡ take kept journal =
+      ap (take kept) (settles .journal-now) ∙ kept-stay file journal used limit (rowFor text) ran in (
+        rw in-use (more-records (used / recordBytes) (length (leftIn file journal used limit)) among),
+        sym (take-take whole kept after fits) ∙ (ap (take whole) stay ∙ take-take whole kept journal fits),
+      )
 
-  -- nothing: all used bytes stand
-  pub all-stand : settled .dropped ≡ 0 → take used after ≡ take used journal
+  -- nothing is dropped: all bytes that were in use are in use after the call, and are the same
+  pub all-stand : settled .dropped ≡ 0 → (used ≤ settled .report .used) × (take used after ≡ take used journal)
   all-stand none =
-      let rest : length (restOf journal used) ≡ 0 = eqb-true (length (restOf journal used)) 0 (by-number (omega arith) .1 none) in
-      let whole : recordBytes * (used / recordBytes) ≡ used =
-      whole-below used (sym (rest-long journal used (used-inside file journal used limit row ran)) ∙ rest) in
+      let whole : recordBytes * (used / recordBytes) ≡ used = whole-below used (eqb-true (used % recordBytes) 0 (by-number (omega arith) .1 none)) in
       rw whole at (records-stand (omega arith))

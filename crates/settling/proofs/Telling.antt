@@ -1,63 +1,58 @@
--- What the small tests of a settlement tell: bytes of the journal's rest, and what is not kept.
+-- What the small tests of a settlement tell: of the bytes behind the last whole record, and of the room for answers.
 -- Assumes nothing.
-use Prim.Native.Nat.{ℕ, _+_, _*_, _/_, _%_, _≤_, _<_}
+use Prim.Native.Nat.{ℕ, _+_, _*_, _/_, _≤_, _<_, min}
 use native.Mathlib.Nat.{add-zero}
 use native.Mathlib.Omega.{arith}
 use mathlib.Core.Path.{_≡_, sym, _∙_, ap}
-use mathlib.Core.Bool.{true, false}
+use mathlib.Core.Bool.{true, false, _&&_}
 use mathlib.Core.Logic.{⊎-elim}
 use mathlib.Core.List.{List}
-use lib.ListN.{length, getD, take, length-take, length-drop, List·getD-eq-default}
-use lib.Dec.{eqb, ltb}
-use lib.Seq.{length-take-le, getD-take, getD-drop, drop-cons}
-use borrow.Author.Tests.{eq-eqb, ne-eqb}
+use lib.ListN.{length, getD, take, length-take, List·getD-eq-default}
+use lib.Dec.{ltb, leb}
+use lib.Seq.{getD-take, getD-drop, drop-cons}
+use borrow.Author.Tests.{eq-eqb, ne-eqb, le-leb, lt-leb}
 use Rattle.infon.specs.Journal.{recordBytes}
 use Rattle.infon.proofs.Rows.{decided}
-use Rattle.settling.specs.Settled.{textBytes, answerRoom, restOf, isBegun, droppedOf}
-use Rattle.settling.specs.Telling.{droppedBy}
+use Rattle.settling.specs.Settled.{textBytes, answerRoom, restOf, isBegun}
 
 -- a byte of the used ones, and none
 module _ (journal : List ℕ) (used i other : ℕ) where
-  pub byte-unused : used ≤ i → other ≡ getD (take used journal) i other
-  byte-unused h = sym (List·getD-eq-default (take used journal) other (omega (arith, length-take used journal)))
-
-  pub byte-outside : length journal ≤ i → other ≡ getD (take used journal) i other
-  byte-outside h = sym (List·getD-eq-default (take used journal) other (omega (arith, length-take used journal)))
+  pub byte-none : min used (length journal) ≤ i → other ≡ getD (take used journal) i other
+  byte-none h = sym (List·getD-eq-default (take used journal) other (omega (arith, length-take used journal)))
 
   pub byte-there : i < used → i < length journal → getD journal i 0 ≡ getD (take used journal) i other
   byte-there h inside =
       ap (λ (l : List ℕ). getD l 0 0) (sym (drop-cons journal i 0 inside) ∙ drop-cons journal i other inside) ∙ sym (getD-take used journal i other h)
 
--- the first two bytes of the rest
-module _ (journal : List ℕ) (used b : ℕ) where
-  first-of-rest : getD (restOf journal used) 0 0x4C ≡ getD (take used journal) (9 * (used / 9)) 0x4C
+-- the rest begins as a record does, by its first three bytes
+module _ (journal : List ℕ) (used first : ℕ) (at-first : first ≡ getD (take used journal) (9 * (used / 9)) 0x4C) where
+  of-rest : (i other : ℕ) → getD (restOf journal used) i other ≡ getD (take used journal) (9 * (used / 9) + i) other
   unfolding restOf recordBytes
-  first-of-rest =
-      getD-drop (9 * (used / 9)) (take used journal) 0 0x4C ∙ ap (λ (j : ℕ). getD (take used journal) j 0x4C) (add-zero (9 * (used / 9)))
+  of-rest i other = getD-drop (9 * (used / 9)) (take used journal) i other
 
-  second-of-rest : getD (restOf journal used) 1 0x51 ≡ getD (take used journal) (9 * (used / 9) + 1) 0x51
-  unfolding restOf recordBytes
-  second-of-rest = getD-drop (9 * (used / 9)) (take used journal) 1 0x51
+  first-is : getD (restOf journal used) 0 0x4C ≡ first
+  first-is = of-rest 0 0x4C ∙ (ap (λ (j : ℕ). getD (take used journal) j 0x4C) (add-zero (9 * (used / 9))) ∙ sym at-first)
 
-  pub begun-not : b ≡ getD (take used journal) (9 * (used / 9)) 0x4C → (b ≡ 0x4C → ⊥) → false ≡ isBegun (restOf journal used)
+  pub begun-not-first : (first ≡ 0x4C → ⊥) → false ≡ isBegun (restOf journal used)
   unfolding isBegun
-  begun-not e h = rw (first-of-rest ∙ sym e, ne-eqb b 0x4C h)
+  begun-not-first h = rw (first-is, ne-eqb first 0x4C h)
 
-  pub begun-by : b ≡ 0x4C → b ≡ getD (take used journal) (9 * (used / 9)) 0x4C → (c : ℕ) → c ≡ getD (take used journal) (9 * (used / 9) + 1) 0x51
-      → eqb c 0x51 ≡ isBegun (restOf journal used)
-  unfolding isBegun
-  begun-by h e c f = rw (first-of-rest ∙ sym e, eq-eqb b 0x4C h, second-of-rest ∙ sym f)
+  module _ (high : first ≡ 0x4C) (second : ℕ) (at-second : second ≡ getD (take used journal) (9 * (used / 9) + 1) 0x51) where
+    pub begun-not-second : (second ≡ 0x51 → ⊥) → false ≡ isBegun (restOf journal used)
+    unfolding isBegun
+    begun-not-second h = rw (first-is, eq-eqb first 0x4C high, of-rest 1 0x51 ∙ sym at-second, ne-eqb second 0x51 h)
 
--- how long the rest is, where the used bytes lie within the buffer
-pub rest-long : (journal : List ℕ) (used : ℕ) → used ≤ length journal → length (restOf journal used) ≡ used % recordBytes
-unfolding restOf recordBytes
-rest-long journal used fits =
-    length-drop (9 * (used / 9)) (take used journal) ∙ omega (arith, length-take-le used journal fits)
+    module _ (low : second ≡ 0x51) (third : ℕ) (at-third : third ≡ getD (take used journal) (9 * (used / 9) + 2) 1) where
+      third-decides : isBegun (restOf journal used) ≡ leb 1 third && leb third 8
+      unfolding isBegun
+      third-decides =
+          rw (first-is, eq-eqb first 0x4C high, of-rest 1 0x51 ∙ sym at-second, eq-eqb second 0x51 low, of-rest 2 1 ∙ sym at-third)
 
--- then what is not kept is told from the numbers at hand
-pub dropped-told : (journal : List ℕ) (used kept : ℕ) → used ≤ length journal → droppedBy used kept (isBegun (restOf journal used)) ≡ droppedOf journal used kept
-unfolding droppedBy droppedOf
-dropped-told journal used kept fits = rw (rest-long journal used fits)
+      pub begun-below : 1 ≤ third → leb third 8 ≡ isBegun (restOf journal used)
+      begun-below h = rw (third-decides, le-leb 1 third h)
+
+      pub begun-not-third : third < 1 → leb 1 third ≡ isBegun (restOf journal used)
+      begun-not-third h = rw (third-decides, lt-leb 1 third h)
 
 -- how many answers a text has room for
 pub room-few : (text : List ℕ) → answerRoom text ≤ 1024

@@ -7,8 +7,8 @@ use reader::RECORD_BYTES;
 ghost use mathlib.Core.Path.{_≡_};
 ghost use lib.ListN.{take, getD};
 ghost use Rattle.printing.specs.Placed.{Prints};
-ghost use Rattle.settling.specs.Settled.{answerRoom, restOf, isBegun, Settles};
-ghost use Rattle.settling.specs.Telling.{droppedBy, Shows, settlementOf, textOf};
+ghost use Rattle.settling.specs.Settled.{answerRoom, textOf, restOf, isBegun, droppedBy, Settles};
+ghost use Rattle.settling.specs.Telling.{settlementOf, Shows};
 
 // What a call came to: the run's report, how many whole records the journal had, what of it was not kept, and the length of the text.
 pub struct Settlement {
@@ -43,7 +43,11 @@ fn is_begun(journal: &[u8], used: usize) -> bool
     if byte_or(journal, used, whole, MARK_HIGH) != MARK_HIGH {
         return false;
     }
-    byte_or(journal, used, whole + 1, MARK_LOW) == MARK_LOW
+    if byte_or(journal, used, whole + 1, MARK_LOW) != MARK_LOW {
+        return false;
+    }
+    let rule = byte_or(journal, used, whole + 2, 1);
+    1 <= rule && rule <= 8
 }
 
 // What is not kept of the used bytes where so many records are: 0 nothing, 1 a last record that was cut off, 2 more than that.
@@ -86,10 +90,10 @@ fn sum_up(report: Report, used: usize, begun: bool, length: usize) -> Settlement
 fn answer_room(text: &[u8]) -> usize
     ensures { λ r. ⌜ r ≡ answerRoom (now (text .entry)) ⌝ }
 {
-    if text.len() < TEXT_BYTES {
-        return 0;
+    if TEXT_BYTES <= text.len() {
+        return MOST_ANSWERS;
     }
-    MOST_ANSWERS
+    0
 }
 
 // Prints what a run found, where the text is long enough, and returns the length of what is printed.

@@ -21,25 +21,25 @@ places : (c : tie.After-line-end Inv-loop μ-loop)
 places c =
     let l = c .before .before .before .loop in
     let s = c .before .before .before .before .before .before .before in
-    turn-places (s .args .file .now) (s .args .asked) (s .args .answers .now) (s .args .out .now) (l .out) (l .at) (l .count) (l .start) (l .inv) (s .pre .1)
+    turn-places (s .args .file .now) (s .args .asked) (s .args .answers .now) (s .args .out .now) (l .out) (l .at) (l .count) (l .start) (l .inv) (s .pre .room)
     (omega arith) (omega arith) (c .line-end .result) (c .line-end .ensures)
 
 loop-holds : tie.Need-loop-holds Inv-loop μ-loop
 loop-holds c =
     let s = c .before .before .before in
-    begin (s .args .file .now) (s .args .asked) (s .args .answers .now) (s .args .out .now) (s .pre .0)
+    begin (s .args .file .now) (s .args .asked) (s .args .answers .now) (s .args .out .now) (s .pre .lines)
 
 same-length : tie.Need-same-length Inv-loop μ-loop
 same-length c =
     let l = c .before .before .loop in
     let s = c .before .before .before .before .before .before in
-    same-room (s .args .file .now) (s .args .asked) (s .args .answers .now) (s .args .out .now) (l .out) (l .at) (l .count) (l .start) (l .inv) (s .pre .1)
+    same-room (s .args .file .now) (s .args .asked) (s .args .answers .now) (s .args .out .now) (l .out) (l .at) (l .count) (l .start) (l .inv) (s .pre .room)
 
 returns : tie.Need-returns Inv-loop μ-loop
 returns c =
     let l = c .before .before .loop in
     let s = c .before .before .before .before .before .before in
-    over-answers (s .args .file .now) (s .args .asked) (s .args .answers .now) (s .args .out .now) (l .out) (l .at) (l .count) (l .start) (l .inv) (s .pre .1) (omega arith)
+    over-answers (s .args .file .now) (s .args .asked) (s .args .answers .now) (s .args .out .now) (l .out) (l .at) (l .count) (l .start) (l .inv) (s .pre .room) (omega arith)
 
 line-end-requires : tie.Need-line-end-requires Inv-loop μ-loop
 line-end-requires c κs = omega arith
@@ -50,7 +50,7 @@ put-query-requires c κs =
     let l = found .before .before .before .loop in
     let s = found .before .before .before .before .before .before .before in
     let room =
-    turn-room (s .args .file .now) (s .args .asked) (s .args .answers .now) (s .args .out .now) (l .out) (l .at) (l .count) (l .start) (l .inv) (s .pre .1)
+    turn-room (s .args .file .now) (s .args .asked) (s .args .answers .now) (s .args .out .now) (l .out) (l .at) (l .count) (l .start) (l .inv) (s .pre .room)
     (omega arith) (omega arith) (found .line-end .result) (found .line-end .ensures) in
     ((places found .0, omega (arith, places found .1)), (omega arith, room))
 
@@ -66,20 +66,20 @@ loop-again c =
     let found = put .before .before in
     let l = found .before .before .before .loop in
     let s = found .before .before .before .before .before .before .before in
-    turn (s .args .file .now) (s .args .asked) (s .args .answers .now) (s .args .out .now) (l .out) (l .at) (l .count) (l .start) (l .inv) (s .pre .1)
+    turn (s .args .file .now) (s .args .asked) (s .args .answers .now) (s .args .out .now) (l .out) (l .at) (l .count) (l .start) (l .inv) (s .pre .room)
     (omega arith) (omega arith) (found .line-end .result) (found .line-end .ensures) (put .put-query .result) _ (put .put-query .ensures)
 
 same-length-2 : tie.Need-same-length-2 Inv-loop μ-loop
 same-length-2 c =
     let l = c .before .loop in
     let s = c .before .before .before .before .before in
-    same-room (s .args .file .now) (s .args .asked) (s .args .answers .now) (s .args .out .now) (l .out) (l .at) (l .count) (l .start) (l .inv) (s .pre .1)
+    same-room (s .args .file .now) (s .args .asked) (s .args .answers .now) (s .args .out .now) (l .out) (l .at) (l .count) (l .start) (l .inv) (s .pre .room)
 
 returns-2 : tie.Need-returns-2 Inv-loop μ-loop
 returns-2 c =
     let l = c .before .loop in
     let s = c .before .before .before .before .before in
-    over-lines (s .args .file .now) (s .args .asked) (s .args .answers .now) (s .args .out .now) (l .out) (l .at) (l .count) (l .start) (l .inv) (s .pre .1) (omega arith)
+    over-lines (s .args .file .now) (s .args .asked) (s .args .answers .now) (s .args .out .now) (l .out) (l .at) (l .count) (l .start) (l .inv) (s .pre .room) (omega arith)
 
 pub print-answers-spec : {M : Type 1} → statement M
 print-answers-spec =

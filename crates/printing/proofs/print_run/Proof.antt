@@ -6,9 +6,7 @@ use Rattle.printing.proofs.print_run.Statement.{statement}
 use Rattle.printing.proofs.print_run.Tie as tie
 
 print-answers-requires : tie.Need-print-answers-requires
-print-answers-requires c κs =
-    let known = c .before .before .before .before .before .pre .0 (c .before .if1 .taken) in
-    (known .lines, known .room)
+print-answers-requires c κs = c .before .before .before .before .before .pre .0 (c .before .if1 .taken)
 
 print-refusal-requires : tie.Need-print-refusal-requires
 print-refusal-requires c κs = search needs

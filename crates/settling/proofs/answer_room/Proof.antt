@@ -7,11 +7,11 @@ use Rattle.settling.proofs.answer_room.Tie as tie
 
 returns : tie.Need-returns
 unfolding answerRoom textBytes
-returns c = rw (lt-ltb _ _ (c .if1 .taken))
+returns c = rw (le-ltb _ 65536 (c .if1 .taken))
 
 returns-2 : tie.Need-returns-2
 unfolding answerRoom textBytes
-returns-2 c = rw (le-ltb _ _ (c .if1 .left))
+returns-2 c = rw (lt-ltb _ 65536 (c .if1 .left))
 
 pub answer-room-spec : {M : Type 1} → statement M
 answer-room-spec = tie.close (tie.spec returns returns-2)

@@ -2,19 +2,19 @@
 -- Assumes nothing.
 use native.Mathlib.Omega.{arith}
 use borrow.Author.Needs.{needs}
-use Rattle.settling.proofs.Telling.{byte-unused, byte-outside, byte-there}
+use Rattle.settling.proofs.Telling.{byte-none, byte-there}
 use Rattle.settling.proofs.byte_or.Statement.{statement}
 use Rattle.settling.proofs.byte_or.Tie as tie
 
 returns : tie.Need-returns
 returns c =
     let a = c .before .args in
-    byte-unused (a .journal .now) (a .used) (a .i) (a .other) (omega arith)
+    byte-none (a .journal .now) (a .used) (a .i) (a .other) (omega arith)
 
 returns-2 : tie.Need-returns-2
 returns-2 c =
     let a = c .before .before .args in
-    byte-outside (a .journal .now) (a .used) (a .i) (a .other) (omega arith)
+    byte-none (a .journal .now) (a .used) (a .i) (a .other) (omega arith)
 
 shared-slice-read-result : tie.Need-shared-slice-read-result
 shared-slice-read-result c = search needs

@@ -2,7 +2,7 @@
 -- Assumes nothing.
 use borrow.Author.Tests.{lt-ltb, le-ltb, eq-eqb, ne-eqb}
 use Rattle.infon.specs.Journal.{recordBytes}
-use Rattle.settling.specs.Telling.{droppedBy}
+use Rattle.settling.specs.Settled.{droppedBy}
 use Rattle.settling.proofs.dropped_by.Statement.{statement}
 use Rattle.settling.proofs.dropped_by.Tie as tie
 
