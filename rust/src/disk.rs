@@ -2,13 +2,13 @@
 //! place.
 
 use crate::files::{
-    are_apart, behind_links, holds, is_same, make_alike, open_plain, outputs, there, Named,
+    all_of, are_apart, behind_links, holds, is_same, make_alike, open_plain, outputs, there, Named,
 };
 use crate::output::{cannot, say, End};
 use std::env;
 use std::ffi::{OsStr, OsString};
 use std::fs::{self, File, Metadata, OpenOptions, TryLockError};
-use std::io::{self, ErrorKind, Read, Write};
+use std::io::{self, ErrorKind, Write};
 use std::os::unix::ffi::{OsStrExt, OsStringExt};
 use std::os::unix::fs::{MetadataExt, OpenOptionsExt};
 use std::path::{Path, PathBuf};
@@ -32,8 +32,10 @@ const LONGEST_STEM: usize = 255 - ".saved-12345678".len();
 /// each of its names there, no file can be removed to lose it, and it goes with
 /// the process.
 pub struct Held {
-    /// The journal, as it was given.
+    /// The journal as it was given, and by a path that also holds from within the
+    /// folder.
     given: PathBuf,
+    lasting: PathBuf,
     folder: File,
     path: PathBuf,
     name: OsString,
@@ -99,8 +101,14 @@ impl Held {
         let opened = File::open(&path).map_err(cannot("open", &shown));
         let folder = opened.map_err(untouched)?;
         wait_for_lock(&folder, &shown)?;
+        let lasting = match path.to_str() {
+            Some(".") => Ok(given.clone()),
+            _ => std::path::absolute(&given).map_err(cannot("look at", &shown)),
+        };
+        let lasting = lasting.map_err(untouched)?;
         Ok(Held {
             given,
+            lasting,
             folder,
             path,
             name,
@@ -130,38 +138,34 @@ impl Held {
         Err(untouched(format!("{shown} was moved: call again")))
     }
 
-    /// The file that the system finds by the journal's name as it was given, which
-    /// must still lead where it led before the lock was taken.
-    fn reached(&self) -> Result<Option<Metadata>, End> {
-        let shown = format!("{:?}", self.given);
-        let (path, name) = behind_links(&self.given).map_err(untouched)?;
-        if (&path, &name) != (&self.path, &self.name) {
-            return Err(untouched(format!(
-                "{shown} leads elsewhere now: call again"
-            )));
-        }
-        let found = there(fs::metadata(&self.given)).map_err(cannot("read", &shown));
-        found.map_err(untouched)
+    /// What stands under the journal's name in the folder, and what the system
+    /// finds by the journal as it was given.
+    fn found(&self) -> Result<[Option<Metadata>; 2], String> {
+        let here = there(fs::symlink_metadata(&self.name));
+        let given = there(fs::metadata(&self.lasting));
+        let found = here.and_then(|here| Ok([here, given?]));
+        found.map_err(cannot("read", &self.shown(&self.name)))
     }
 
     /// Reads the journal.
     pub fn read(&self) -> Result<Old, End> {
-        let reached = self.reached()?;
-        self.enter()?;
         let shown = self.shown(&self.name);
-        let failed = |error| untouched(cannot("read", &shown)(error));
-        let found = there(fs::symlink_metadata(&self.name)).map_err(failed)?;
-        match (reached, found) {
-            (None, None) => return Ok(Old::default()),
-            (Some(reached), Some(found)) if is_same(&reached, &found) && found.is_file() => {}
+        self.still_leads_here()?;
+        self.enter()?;
+        match self.found().map_err(untouched)? {
+            [None, None] => return Ok(Old::default()),
+            [Some(here), Some(given)] if is_same(&here, &given) && here.is_file() => {}
+            [Some(here), _] if here.is_file() => return Err(self.changed()),
             _ => return Err(untouched(format!("{shown} is not a plain file"))),
         }
+        let failed = |error| untouched(cannot("read", &shown)(error));
         let file = open_plain(&self.name).map_err(failed)?;
         let found = file.metadata().map_err(failed)?;
-        let mut bytes = Vec::new();
+        if !found.is_file() {
+            return Err(self.changed());
+        }
         let most = brimusket::JOURNAL_BYTES;
-        let mut input = (&file).take(most as u64 + 1);
-        input.read_to_end(&mut bytes).map_err(failed)?;
+        let bytes = all_of(&file, most).map_err(failed)?;
         if bytes.len() > most {
             return Err(untouched(format!(
                 "{shown} has more than {most} bytes, which no journal has: move it away and call again"
@@ -171,25 +175,48 @@ impl Held {
         Ok(Old { file, bytes })
     }
 
-    /// Fails where the journal is no longer the file that was read.
-    fn is_as_read(&self, old: &Old) -> Result<(), String> {
-        let shown = self.shown(&self.name);
-        let now = there(fs::symlink_metadata(&self.name)).map_err(cannot("look at", &shown))?;
-        let state = |file: &Metadata| (file.dev(), file.ino(), file.len(), file.modified().ok());
-        let then = old.file.as_ref().map(|(_, found)| state(found));
-        if now.as_ref().map(state) == then {
+    /// Fails where the journal as it was given no longer leads where it led before
+    /// the lock was taken.
+    fn still_leads_here(&self) -> Result<(), End> {
+        let (path, name) = behind_links(&self.given).map_err(untouched)?;
+        if (&path, &name) == (&self.path, &self.name) {
             return Ok(());
         }
-        Err(format!(
-            "another program changed {shown} meanwhile: call again"
+        Err(self.changed())
+    }
+
+    /// Another program does not keep to the lock.
+    fn changed(&self) -> End {
+        let shown = self.shown(&self.name);
+        End::failed(format!(
+            "another program changed {shown} meanwhile; this call changed nothing: call again"
         ))
+    }
+
+    /// Whether the journal is still the file that was read, with the same bytes.
+    fn is_as_read(&self, old: &Old) -> Result<bool, String> {
+        let state = |file: &Metadata| {
+            let time = (file.mtime(), file.mtime_nsec());
+            let owner = (file.uid(), file.gid(), file.mode());
+            (file.dev(), file.ino(), file.len(), time, owner)
+        };
+        let then = old.file.as_ref().map(|(_, found)| state(found));
+        let found = self.found()?;
+        let alike = found.iter().all(|now| now.as_ref().map(state) == then);
+        let Some((file, _)) = &old.file else {
+            return Ok(alike);
+        };
+        let shown = self.shown(&self.name);
+        let bytes = all_of(file, brimusket::JOURNAL_BYTES).map_err(cannot("read", &shown))?;
+        Ok(alike && bytes == old.bytes)
     }
 
     /// Refuses a call in which one file would be two things. The journal is going
     /// to be replaced, and what has the program's own name to be removed.
     pub fn keep_apart(&self, old: &Old, policy: Metadata) -> Result<(), End> {
         let policy = [("the policy file".to_string(), policy)];
-        let outputs = outputs();
+        let outputs = outputs().map_err(cannot("look at", "standard output and error"));
+        let outputs = outputs.map_err(untouched)?;
         let journal = old.file.as_ref().map(|(_, found)| found.clone());
         let left = fs::symlink_metadata(RESERVED).ok();
         let own = [
@@ -214,18 +241,23 @@ impl Held {
         dropped: Option<String>,
     ) -> Result<OnDisk<'_>, End> {
         self.clear()?;
-        let new = self.put(old, journal, dropped).map_err(|what| {
+        let put = self.put(old, journal, dropped).map_err(untouched);
+        let new = put.and_then(|new| new.ok_or_else(|| self.changed()));
+        let new = new.inspect_err(|_| {
             let _ = fs::remove_file(RESERVED);
-            untouched(what)
         })?;
-        self.force().map_err(|what| {
+        let unsure = |what| {
             End::failed(format!(
-                "{what}; the new journal stands in its place, but the disk has not confirmed it, \
+                "{what}; the new journal was put in its place, but that is not sure to last, \
                  so no answer is given: call again"
             ))
-        })?;
-        self.is_in_place(&new).map_err(End::failed)?;
-        Ok(OnDisk { _held: self })
+        };
+        self.force().map_err(unsure)?;
+        if self.is_in_place(&new, journal).map_err(unsure)? {
+            return Ok(OnDisk { _held: self });
+        }
+        let shown = self.shown(&self.name);
+        Err(unsure(format!("another program changed {shown} meanwhile")))
     }
 
     /// Removes what a call that was cut off has left.
@@ -238,25 +270,35 @@ impl Held {
         removed.map_err(|what| untouched(format!("{what}; remove it by hand")))
     }
 
-    /// Writes the new journal, saves the old one where that is to be, and renames.
-    fn put(&self, old: &Old, journal: &[u8], dropped: Option<String>) -> Result<File, String> {
+    /// Writes the new journal, saves the old one where that is to be, and renames;
+    /// nothing where another program has changed the old one.
+    fn put(
+        &self,
+        old: &Old,
+        journal: &[u8],
+        dropped: Option<String>,
+    ) -> Result<Option<File>, String> {
         let new = self.write(old, journal)?;
-        self.is_as_read(old)?;
         if let (Some(words), Some((file, found))) = (dropped, &old.file) {
+            if !self.is_as_read(old)? {
+                return Ok(None);
+            }
             let saved = self.save(file, found, &old.bytes)?;
-            self.is_as_read(old)?;
             say(&format!("{words} The old journal stays as {saved}"));
         }
+        if !self.is_as_read(old)? {
+            return Ok(None);
+        }
         let shown = self.shown(&self.name);
-        fs::rename(RESERVED, &self.name).map_err(cannot("replace", &shown))?;
-        Ok(new)
+        let moved = fs::rename(RESERVED, &self.name).map_err(cannot("replace", &shown));
+        moved.map(|()| Some(new))
     }
 
     /// Writes the journal to a new file, and forces it to the disk.
     fn write(&self, old: &Old, journal: &[u8]) -> Result<File, String> {
         let shown = self.shown(RESERVED);
         let mut options = OpenOptions::new();
-        options.write(true).create_new(true);
+        options.read(true).write(true).create_new(true);
         if old.file.is_some() {
             options.mode(0o600);
         }
@@ -270,21 +312,17 @@ impl Held {
         Ok(new)
     }
 
-    /// Fails where the journal's name does not lead to the new file.
-    fn is_in_place(&self, new: &File) -> Result<(), String> {
+    /// Whether the journal's name leads to the new file, and that holds its bytes.
+    fn is_in_place(&self, new: &File, journal: &[u8]) -> Result<bool, String> {
         let shown = self.shown(&self.name);
-        let look = || {
-            Ok(is_same(
-                &new.metadata()?,
-                &fs::symlink_metadata(&self.name)?,
-            ))
-        };
-        if look().map_err(cannot("look at", &shown))? {
-            return Ok(());
+        let made = new.metadata().map_err(cannot("look at", &shown))?;
+        let is_new =
+            |file: &Option<Metadata>| file.as_ref().is_some_and(|file| is_same(file, &made));
+        if !self.found()?.iter().all(is_new) {
+            return Ok(false);
         }
-        Err(format!(
-            "another program replaced {shown} meanwhile, so no answer is given: call again"
-        ))
+        let held = all_of(new, journal.len()).map_err(cannot("read", &shown))?;
+        Ok(held == journal)
     }
 
     /// Forces the folder to the disk, and so the names in it.

@@ -2,7 +2,7 @@
 
 use std::ffi::{OsStr, OsString};
 use std::fs::{self, File, Metadata, OpenOptions};
-use std::io::{self, ErrorKind, Read};
+use std::io::{self, ErrorKind, Read, Seek, SeekFrom};
 use std::os::fd::{AsFd, BorrowedFd};
 use std::os::unix::ffi::OsStrExt;
 use std::os::unix::fs::{fchown, MetadataExt, OpenOptionsExt};
@@ -64,16 +64,15 @@ pub fn open_plain(name: &OsStr) -> io::Result<File> {
 /// Whether a file keeps these bytes for the owner of the old one. What this call
 /// is going to print into does not.
 pub fn holds(name: &OsStr, old: &Metadata, bytes: &[u8]) -> io::Result<bool> {
-    let mut file = open_plain(name)?;
+    let file = open_plain(name)?;
     let found = file.metadata()?;
-    let is_output = outputs().iter().any(|(_, output)| is_same(output, &found));
+    let outputs = outputs()?;
+    let is_output = outputs.iter().any(|(_, output)| is_same(output, &found));
     let (ours, theirs) = ((old.uid(), old.len()), (found.uid(), found.len()));
     if is_output || !found.is_file() || ours != theirs {
         return Ok(false);
     }
-    let mut held = Vec::new();
-    file.read_to_end(&mut held)?;
-    Ok(held == bytes)
+    Ok(all_of(&file, bytes.len())? == bytes)
 }
 
 /// Gives the new file the owner and the mode of the old one.
@@ -109,9 +108,20 @@ pub fn kind_of(open: BorrowedFd) -> io::Result<Metadata> {
 }
 
 /// What standard output and standard error are.
-pub fn outputs() -> Vec<Named> {
-    let output = ("standard output", kind_of(io::stdout().as_fd()));
-    let error = ("standard error", kind_of(io::stderr().as_fd()));
-    let known = [output, error].map(|(name, file)| Some((name.into(), file.ok()?)));
-    known.into_iter().flatten().collect()
+pub fn outputs() -> io::Result<[Named; 2]> {
+    let output = kind_of(io::stdout().as_fd())?;
+    let error = kind_of(io::stderr().as_fd())?;
+    Ok([
+        ("standard output".into(), output),
+        ("standard error".into(), error),
+    ])
+}
+
+/// All bytes of an open file, from its beginning on, and one more than so many at
+/// the most.
+pub fn all_of(mut file: &File, most: usize) -> io::Result<Vec<u8>> {
+    let mut bytes = Vec::new();
+    file.seek(SeekFrom::Start(0))?;
+    file.take(most as u64 + 1).read_to_end(&mut bytes)?;
+    Ok(bytes)
 }

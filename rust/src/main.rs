@@ -61,7 +61,8 @@ fn main() -> ExitCode {
 
 /// Does what the words of the command line say.
 fn command(words: &[OsString]) -> Result<(), End> {
-    output::spare(words);
+    let names: Vec<&OsStr> = words.iter().skip(1).map(|word| word.as_os_str()).collect();
+    output::spare(&names);
     output::is_open()?;
     let (name, words) = words.split_first().ok_or_else(|| usage("no command"))?;
     let given = Given::read(words)?;
@@ -161,7 +162,9 @@ fn desk(path: Option<&OsStr>, questions: bool) -> Result<(), End> {
     let name = path.map_or("standard input".into(), |path| format!("{path:?}"));
     let read = read_policy(path).map_err(cannot("read", &name));
     let (file, policy) = read.map_err(End::failed)?;
-    are_apart(&[(name.clone(), file)], &outputs()).map_err(End::failed)?;
+    let outputs = outputs().map_err(cannot("look at", "standard output and error"));
+    let apart = outputs.and_then(|outputs| are_apart(&[(name.clone(), file)], &outputs));
+    apart.map_err(End::failed)?;
     let answers = call::desk(&policy, questions).map_err(|refused| refuse(refused, &name))?;
     if answers.is_empty() {
         say(&format!("{name} asks no question"));
@@ -172,6 +175,7 @@ fn desk(path: Option<&OsStr>, questions: bool) -> Result<(), End> {
 /// Answers a policy file and keeps the journal. The folder is locked from before
 /// either file is read until the answers are out.
 fn night(policy: &OsStr, journal: &OsStr, limit: usize, questions: bool) -> Result<(), End> {
+    output::spare(&[policy, journal]);
     disk::is_free(policy)?;
     let held = Held::lock(journal)?;
     let (name, journal) = (format!("{policy:?}"), format!("{journal:?}"));

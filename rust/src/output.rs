@@ -1,8 +1,8 @@
 //! What the program says, and with which status it ends.
 
 use crate::files::{is_same, kind_of};
-use std::ffi::{OsStr, OsString};
-use std::fs::{self, File};
+use std::ffi::OsStr;
+use std::fs::{self, File, Metadata};
 use std::io::{self, Write};
 use std::os::fd::AsFd;
 use std::sync::atomic::{AtomicBool, Ordering};
@@ -56,14 +56,17 @@ pub fn say(message: &str) {
 static SILENT: AtomicBool = AtomicBool::new(false);
 
 /// Says nothing from here on where standard error is a file that one of these
-/// words names: nobody would read it there, and the file would be changed.
-pub fn spare(words: &[OsString]) {
-    let Ok(error) = kind_of(io::stderr().as_fd()) else {
-        return;
+/// words names, or standard input: nobody would read it there, and the file would
+/// be changed.
+pub fn spare(words: &[&OsStr]) {
+    let input = kind_of(io::stdin().as_fd());
+    let error = kind_of(io::stderr().as_fd());
+    let mut files = words.iter().map(fs::metadata).chain([input]).flatten();
+    let is_error = |file: Metadata| {
+        let is_same = error.as_ref().is_ok_and(|error| is_same(error, &file));
+        is_same && file.is_file()
     };
-    let mut files = words.iter().flat_map(fs::metadata);
-    let is_named = files.any(|file| file.is_file() && is_same(&file, &error));
-    SILENT.store(is_named, Ordering::Relaxed);
+    SILENT.store(files.any(is_error), Ordering::Relaxed);
 }
 
 /// Whether standard input and standard output were open when the process began.

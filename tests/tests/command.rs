@@ -188,7 +188,10 @@ fn a_tool_that_is_missing_is_named() {
     let (_, said) = repository.called();
     assert_eq!(said.status.code(), Some(2));
     let told = String::from_utf8_lossy(&said.stderr);
-    assert!(told.contains("rt, which that needs, is missing"), "{told}");
+    assert!(
+        told.contains("rt, which a build needs, is missing"),
+        "{told}"
+    );
 }
 
 #[test]

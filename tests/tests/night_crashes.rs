@@ -296,7 +296,7 @@ fn no_answer_is_given_where_the_disk_confirms_nothing() {
     }
     let uncut = journals::finished(NIGHT);
     let as_it_was = "the journal is as it was";
-    let in_place = "the new journal stands in its place, but the disk has not confirmed it, so no answer is given: call again";
+    let in_place = "the new journal was put in its place, but that is not sure to last, so no answer is given: call again";
     for (old, last) in [(&uncut[..0], 2), (&uncut, 2), (&stale(), 4)] {
         let folder = Folder::night(old);
         let new = format!("{FORCE} {:?}", folder.reserved());

@@ -568,6 +568,18 @@ fn a_standard_error_that_is_the_journal_or_the_policy_gets_no_message() {
     }
 }
 
+/// Only the policy and the journal are spared: a log may be called as it likes.
+#[test]
+fn a_standard_error_that_is_another_file_gets_its_message() {
+    for (log, more) in [("night", ""), ("50", " 50"), ("log", "")] {
+        let folder = Folder::night(FOREIGN);
+        let setting = format!("exec 2>{log}; set -- \"$1\" night policy journal{more}");
+        assert_eq!(told(&mut folder.after(&setting)), Told::new(0, ANSWERS, ""));
+        let words = fs::read_to_string(folder.path(log)).expect("a log");
+        assert!(words.contains("journal.saved-1"), "{log}: {words}");
+    }
+}
+
 #[test]
 fn nothing_else_in_the_folder_is_changed_or_removed() {
     let names = [

@@ -3,29 +3,34 @@
 
 use against::journals;
 use against::night::{
-    ended, has_strace, leave_out, night, stale, started, told, untouched, Folder, Told, ANSWERS,
-    NIGHT,
+    ended, has_strace, leave_out, night, stale, started, told, untouched, Folder, Told, NIGHT,
 };
 use against::workspace::program;
 use std::fs::{self, File};
+use std::io::Write;
 use std::os::unix::fs::{chown, symlink};
 use std::path::Path;
 use std::process::Command;
 use std::thread::sleep;
 use std::time::{Duration, Instant};
 
+/// The call on the folder's journal, meddled with.
+fn meddled(folder: &Folder, meddle: impl FnOnce()) -> Told {
+    meddled_on(folder, &folder.journal(), &folder.reserved(), meddle)
+}
+
 /// The call, held up for a while before it forces the new file to the disk; what
 /// is done then; and what the call tells.
-fn meddled(folder: &Folder, meddle: impl FnOnce()) -> Told {
+fn meddled_on(folder: &Folder, journal: &Path, new: &Path, meddle: impl FnOnce()) -> Told {
     let mut command = Command::new("strace");
     command.arg("-o").arg(folder.path("log"));
     command.arg("--inject=fsync:delay_enter=600000:when=1");
     command.arg(program("brimusket")).arg("night");
-    command.arg(folder.policy()).arg(folder.journal());
+    command.arg(folder.policy()).arg(journal);
     command.env_remove("LD_LIBRARY_PATH");
     let child = started(&mut command);
     let start = Instant::now();
-    while !folder.reserved().exists() {
+    while !new.exists() {
         assert!(start.elapsed() < Duration::from_secs(30), "no new file");
         sleep(Duration::from_millis(1));
     }
@@ -35,6 +40,13 @@ fn meddled(folder: &Folder, meddle: impl FnOnce()) -> Told {
 }
 
 const FOREIGN: &[u8] = b"foreign";
+
+/// What is said where another program does not keep to the lock.
+fn changed(journal: &Path) -> String {
+    format!(
+        "brimusket: another program changed {journal:?} meanwhile; this call changed nothing: call again\n"
+    )
+}
 
 /// Another file takes the place of this one.
 fn replace(path: &Path) {
@@ -56,7 +68,8 @@ fn a_journal_that_another_program_changes_is_not_replaced() {
         symlink("journal.other", path).expect("a link");
     };
     let made = |path: &Path| fs::write(path, FOREIGN).expect("a file");
-    let rows: [(Option<Vec<u8>>, &dyn Fn(&Path)); 5] = [
+    type Row<'m> = (Option<Vec<u8>>, &'m dyn Fn(&Path));
+    let rows: [Row; 5] = [
         (Some(uncut[..18].to_vec()), &replace),
         (Some(stale()), &replace),
         (Some(uncut[..18].to_vec()), &longer),
@@ -68,26 +81,82 @@ fn a_journal_that_another_program_changes_is_not_replaced() {
         old.into_iter().for_each(|old| folder.set(&old));
         let journal = folder.journal();
         let said = meddled(&folder, || meddle(&journal));
-        let words = format!("another program changed {journal:?} meanwhile: call again");
-        assert_eq!(said, Told::new(2, "", &untouched(&words)));
+        assert_eq!(said, Told::new(2, "", &changed(&journal)));
         let kept = folder.kept();
         assert!(kept == FOREIGN || kept == [&uncut[..], b"x"].concat());
         assert!(folder.saved().is_empty() && !folder.reserved().exists());
     }
 }
 
+/// A file that keeps its length and time has other bytes.
+fn overwrite(path: &Path) {
+    let file = File::options().write(true).open(path).expect("a file");
+    let time = file.metadata().and_then(|found| found.modified());
+    (&file).write_all(b"notes").expect("it is written");
+    file.set_modified(time.expect("a time")).expect("it is set");
+}
+
 #[test]
-fn a_new_journal_that_another_program_replaces_gives_no_answer() {
+fn a_new_journal_that_another_program_changes_gives_no_answer() {
+    if !has_strace() {
+        return;
+    }
+    let empty = |path: &Path| fs::write(path, b"").expect("it is emptied");
+    let rows: [&dyn Fn(&Path); 3] = [&replace, &empty, &overwrite];
+    for meddle in rows {
+        let folder = Folder::cut_night();
+        let said = meddled(&folder, || meddle(&folder.reserved()));
+        let words = format!(
+            "brimusket: another program changed {:?} meanwhile; the new journal was put in its place, \
+             but that is not sure to last, so no answer is given: call again\n",
+            folder.journal()
+        );
+        assert_eq!(said, Told::new(2, "", &words));
+    }
+}
+
+#[test]
+fn an_old_journal_that_keeps_its_time_and_changes_its_bytes_is_not_replaced() {
     if !has_strace() {
         return;
     }
     let folder = Folder::cut_night();
-    let said = meddled(&folder, || replace(&folder.reserved()));
-    let words = format!(
-        "brimusket: another program replaced {:?} meanwhile, so no answer is given: call again\n",
-        folder.journal()
-    );
-    assert_eq!(said, Told::new(2, "", &words));
+    let said = meddled(&folder, || overwrite(&folder.journal()));
+    assert_eq!(said, Told::new(2, "", &changed(&folder.journal())));
+    assert!(folder.kept().starts_with(b"notes"));
+}
+
+/// The journal is given through a link to its folder.
+#[test]
+fn a_link_or_a_folder_that_is_turned_during_the_call_is_told() {
+    if !has_strace() {
+        return;
+    }
+    let turn = |folder: &Folder, name: &str, target: &str| {
+        fs::remove_file(folder.path(name)).expect("it was there");
+        symlink(target, folder.path(name)).expect("a link");
+    };
+    for given in ["now/journal", "link"] {
+        let folder = Folder::with(NIGHT);
+        for place in ["one", "two"] {
+            fs::create_dir(folder.path(place)).expect("a folder");
+            fs::write(folder.path(place).join("journal"), &stale()[..18]).expect("a journal");
+        }
+        symlink("one", folder.path("now")).expect("a link");
+        symlink("one/journal", folder.path("link")).expect("a link");
+        let new = folder.path("one/.brimusket-new");
+        let said = meddled_on(&folder, &folder.path(given), &new, || {
+            turn(&folder, "now", "two");
+            turn(&folder, "link", "two/journal");
+        });
+        assert_eq!((said.status, said.text.as_str()), (Some(2), ""));
+        assert!(said
+            .words
+            .ends_with("this call changed nothing: call again\n"));
+        for place in ["one/journal", "two/journal"] {
+            assert!(fs::read(folder.path(place)).expect("a journal") == stale()[..18]);
+        }
+    }
 }
 
 #[test]
@@ -106,8 +175,10 @@ fn a_link_that_is_turned_while_the_call_waits_is_told() {
         symlink(target, folder.path("now")).expect("a link");
         let old = folder.contents();
         lock.unlock().expect("the lock is given back");
-        let words = format!("{:?} leads elsewhere now: call again", folder.path("now"));
-        assert_eq!(ended(child), Told::new(2, "", &untouched(&words)));
+        assert_eq!(
+            ended(child),
+            Told::new(2, "", &changed(&folder.path("one")))
+        );
         assert!(folder.contents() == old, "something changed");
     }
 }
@@ -127,8 +198,9 @@ fn a_file_without_a_name_is_no_journal() {
                     .ends_with(" is not a plain file; the journal is as it was\n"));
                 assert_eq!(folder.contents().len(), 1);
             }
+            // It has one, and is replaced there; but it was given by another.
             _ => {
-                assert_eq!(said, Told::new(0, ANSWERS, ""));
+                assert_eq!((said.status, said.text.as_str()), (Some(2), ""));
                 let gone = fs::read(folder.path("gone")).expect("the journal");
                 assert!(gone == journals::finished(NIGHT));
             }

@@ -605,6 +605,19 @@ fn a_standard_input_that_cannot_be_read_is_no_empty_policy() {
 }
 
 #[test]
+fn a_desk_says_nothing_into_its_policy() {
+    for words in ["policy", "<policy", "--bad <policy", "policy policy"] {
+        let folder = Folder::with(NIGHT);
+        let mut command = Command::new("sh");
+        let text = format!("exec \"$0\" desk {words} 2>>policy");
+        command.arg("-c").arg(text).arg(program("brimusket"));
+        let said = told(command.current_dir(&folder.0));
+        assert_eq!(said, Told::new(2, "", ""));
+        assert!(fs::read(folder.policy()).expect("the policy") == NIGHT);
+    }
+}
+
+#[test]
 fn a_desk_that_would_print_into_its_policy_does_not() {
     let folder = Folder::with(NIGHT);
     for (words, name) in [("policy", "\"policy\""), ("<policy", "standard input")] {

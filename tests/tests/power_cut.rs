@@ -639,17 +639,24 @@ fn the_system_calls_come_in_the_order_that_a_power_cut_asks_for() {
     }
     let [night, long] = policies();
     for before in Before::ALL {
-        let mut order = vec!["lock", "read the policy", "read the journal"];
-        order.truncate(if before == Before::Nothing { 2 } else { 3 });
+        // A journal that is there is read once more before it is saved or replaced.
+        let look = ["read the journal"]
+            .iter()
+            .filter(|_| before != Before::Nothing);
+        let mut order = vec!["lock", "read the policy"];
+        order.extend(look.clone());
         order.extend(["write the new file", "force the new file"]);
+        order.extend(look.clone());
         if before.saves() {
             let save = match before {
                 Before::FreshTwice => "force the saved file",
                 _ => "save",
             };
             order.extend(["force the old file", save, "force the folder"]);
+            order.extend(look);
         }
-        order.extend(["replace", "force the folder", "print", "unlock"]);
+        order.extend(["replace", "force the folder", "read the journal"]);
+        order.extend(["print", "unlock"]);
         let case = Case::new(&night, &long, before);
         assert_eq!(steps(&case), order, "{before:?}");
     }
