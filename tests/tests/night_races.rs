@@ -24,17 +24,16 @@ fn meddled(folder: &Folder, meddle: impl FnOnce()) -> Told {
 fn meddled_on(folder: &Folder, journal: &Path, new: &Path, meddle: impl FnOnce()) -> Told {
     let mut command = Command::new("strace");
     command.arg("-o").arg(folder.path("log"));
-    command.arg("--inject=fsync:delay_enter=600000:when=1");
+    command.arg("--inject=fsync:delay_enter=1200000:when=1");
     command.arg(program("brimusket")).arg("night");
     command.arg(folder.policy()).arg(journal);
     command.env_remove("LD_LIBRARY_PATH");
     let child = started(&mut command);
     let start = Instant::now();
-    while !new.exists() {
+    while fs::metadata(new).map_or(0, |file| file.len()) == 0 {
         assert!(start.elapsed() < Duration::from_secs(30), "no new file");
         sleep(Duration::from_millis(1));
     }
-    sleep(Duration::from_millis(100));
     meddle();
     ended(child)
 }
@@ -159,6 +158,20 @@ fn a_link_or_a_folder_that_is_turned_during_the_call_is_told() {
     }
 }
 
+/// Waits until a process has opened a folder.
+fn wait_for_open(process: u32, folder: &Path) {
+    let start = Instant::now();
+    let is_open = || {
+        let open = fs::read_dir(format!("/proc/{process}/fd")).ok()?;
+        let mut files = open.flatten().flat_map(|file| fs::read_link(file.path()));
+        files.find(|file| file == folder)
+    };
+    while is_open().is_none() {
+        assert!(start.elapsed() < Duration::from_secs(30), "never opened");
+        sleep(Duration::from_millis(1));
+    }
+}
+
 #[test]
 fn a_link_that_is_turned_while_the_call_waits_is_told() {
     for target in ["two", "none"] {
@@ -170,7 +183,7 @@ fn a_link_that_is_turned_while_the_call_waits_is_told() {
         let lock = File::open(&folder.0).expect("the folder");
         lock.lock().expect("the lock");
         let child = started(&mut night(folder.policy(), folder.path("now")));
-        sleep(Duration::from_millis(300));
+        wait_for_open(child.id(), &folder.0);
         fs::remove_file(folder.path("now")).expect("it was there");
         symlink(target, folder.path("now")).expect("a link");
         let old = folder.contents();
