@@ -157,13 +157,14 @@ fn a_journal_of_old_bytes_is_read_saved_and_replaced() {
 // ---------------------------------------------------------------------------
 
 /// The system calls by which the program works on files.
-const CALLS: [&str; 17] = [
+const CALLS: [&str; 18] = [
     "readlink",
     "openat",
     "flock",
     "statx",
     "newfstatat",
     "read",
+    "lseek",
     "chdir",
     "fcntl",
     "unlink",

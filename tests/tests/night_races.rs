@@ -174,10 +174,12 @@ fn wait_for_open(process: u32, folder: &Path) {
 
 #[test]
 fn a_link_that_is_turned_while_the_call_waits_is_told() {
-    for target in ["two", "none"] {
+    for (is_there, target) in [(true, "two"), (true, "none"), (false, "none")] {
         let folder = Folder::with(NIGHT);
         let uncut = journals::finished(NIGHT);
-        fs::write(folder.path("one"), &uncut[..18]).expect("a journal");
+        if is_there {
+            fs::write(folder.path("one"), &uncut[..18]).expect("a journal");
+        }
         fs::write(folder.path("two"), &uncut[..9]).expect("a journal");
         symlink("one", folder.path("now")).expect("a link");
         let lock = File::open(&folder.0).expect("the folder");

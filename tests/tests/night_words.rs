@@ -9,7 +9,7 @@ use against::night::{
     torn, Folder, Told, ANSWERS, MOST, NIGHT,
 };
 use against::rng::Rng;
-use against::workspace::program;
+use against::workspace::{program, root};
 use std::fs::{self, File};
 use std::io::Write;
 use std::path::Path;
@@ -436,6 +436,19 @@ fn answers_that_are_out_in_part_are_told_after_the_journal_is_safe() {
     let whole = expected(&policy, &[], MOST).text;
     assert!(answers.starts_with("1 yes\n") && answers.len() < whole.len());
     assert!(whole.starts_with(&answers));
+}
+
+/// The signal for this would end the program without a word; the command has it
+/// ignored.
+#[test]
+fn a_journal_that_may_not_grow_is_told_through_the_command() {
+    let folder = Folder::cut_night();
+    let mut command = Command::new("sh");
+    command.args(["-c", "ulimit -f 0; exec \"$@\"", "sh"]);
+    command.arg(root().join("bin/brimusket")).arg("night");
+    command.arg(folder.policy()).arg(folder.journal());
+    let words = cannot("write", &folder.path(".brimusket-new"), "File too large");
+    fails(&mut command, &folder, &words);
 }
 
 #[test]
