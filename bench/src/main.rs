@@ -3,11 +3,11 @@
 //! and writes a Markdown table and an SVG picture to the two paths. The table
 //! is printed as well.
 
-mod files;
 mod picture;
 mod table;
 mod timing;
 
+use against::kinds::{Kind, KINDS, MOST_NODES};
 use std::env;
 use std::fs;
 use std::process::ExitCode;
@@ -34,9 +34,9 @@ fn main() -> ExitCode {
 }
 
 fn all_rows() -> Vec<Row> {
-    let rows_of = |kind: files::Kind| {
-        let files = files::MOST_NODES.map(|most| (kind.make)(most - timing::DEEP_NODES));
+    let rows_of = |kind: Kind| {
+        let files = MOST_NODES.map(|most| (kind.make)(most - timing::DEEP_NODES));
         timing::rows(kind.name, files.into_iter())
     };
-    files::KINDS.into_iter().flat_map(rows_of).collect()
+    KINDS.into_iter().flat_map(rows_of).collect()
 }

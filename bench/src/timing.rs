@@ -1,10 +1,10 @@
 //! Timing two engines in turn on equal buffers, over all files of a kind in turn,
 //! so that a machine that slows down slows down all that is compared.
 
-use crate::files::nodes;
 use against::cases::sizes;
 use against::engine::under_test;
 use against::journals::{finished, RECORD};
+use against::kinds::nodes;
 use second::{fast, Run};
 use std::hint::black_box;
 use std::time::{Duration, Instant};

@@ -659,8 +659,7 @@ fn write_answers(answers: &mut [u8], policy: &Policy, recorded: &[bool], finishe
 }
 
 /// "A run takes the file, the journal buffer, its used length, a limit n and
-/// the answer buffer." It "adds the smaller of n and missing, each the next
-/// one, right after the kept part".
+/// the answer buffer."
 pub fn run(
     file: &[u8],
     journal: &mut [u8],
@@ -668,34 +667,41 @@ pub fn run(
     limit: usize,
     answers: &mut [u8],
 ) -> Report {
-    let policy = match Policy::read(file) {
-        Ok(policy) => policy,
-        Err((code, place)) => return Report::refusal(code, place, used),
-    };
-    if let Some(code) = fault_of_buffers(&policy, journal.len(), used, answers.len()) {
-        return Report::refusal(code, 0, used);
+    match Policy::read(file) {
+        Ok(policy) => policy.run(journal, used, limit, answers),
+        Err((code, place)) => Report::refusal(code, place, used),
     }
-    let mut records = policy.kept_part(&journal[..used]);
-    let kept = records.len();
-    let to_come = policy.records_to_come(&records);
-    let added = limit.min(to_come.len());
-    records.extend_from_slice(&to_come[..added]);
-    let new_used = RECORD_BYTES * records.len();
-    if new_used > journal.len() {
-        return Report::refusal(9, 0, used);
-    }
+}
 
-    let recorded = policy.recorded(&records);
-    let finished = policy.next_record(&recorded).is_none();
-    write_added(journal, &records, kept);
-    write_answers(answers, &policy, &recorded, finished);
-    Report {
-        code: 0,
-        place: 0,
-        kept,
-        added,
-        finished,
-        used: new_used,
+impl Policy {
+    /// A run with this file, which is accepted. It "adds the smaller of n and
+    /// missing, each the next one, right after the kept part".
+    pub fn run(&self, journal: &mut [u8], used: usize, limit: usize, answers: &mut [u8]) -> Report {
+        if let Some(code) = fault_of_buffers(self, journal.len(), used, answers.len()) {
+            return Report::refusal(code, 0, used);
+        }
+        let mut records = self.kept_part(&journal[..used]);
+        let kept = records.len();
+        let to_come = self.records_to_come(&records);
+        let added = limit.min(to_come.len());
+        records.extend_from_slice(&to_come[..added]);
+        let new_used = RECORD_BYTES * records.len();
+        if new_used > journal.len() {
+            return Report::refusal(9, 0, used);
+        }
+
+        let recorded = self.recorded(&records);
+        let finished = self.next_record(&recorded).is_none();
+        write_added(journal, &records, kept);
+        write_answers(answers, self, &recorded, finished);
+        Report {
+            code: 0,
+            place: 0,
+            kept,
+            added,
+            finished,
+            used: new_used,
+        }
     }
 }
 

@@ -64,6 +64,26 @@ pub fn from_journal(file: &[u8], journal: &[u8]) -> Case {
     case
 }
 
+/// Runs in buffers that no list fills, used far beyond every list: good records
+/// first, and behind them zeros, the same records again and again, or anything.
+pub fn used_far(rng: &mut Rng, file: &[u8], good: &[u8]) -> Vec<Case> {
+    let mut cases = Vec::new();
+    for length in [100_000, 1_000_003] {
+        let repeated = good.iter().copied().cycle().take(length).collect();
+        for behind in [vec![0; length], repeated, rng.bytes(length)] {
+            let journal = [good, &behind[good.len()..]].concat();
+            for used in [36_864, 36_865, 40_000, 99_999, length] {
+                cases.push(Case {
+                    journal: journal.clone(),
+                    used,
+                    ..from_empty(file)
+                });
+            }
+        }
+    }
+    cases
+}
+
 /// Any case at all: any file, now and then a damaged one, any journal, a limit
 /// around what is missing, and buffers that are now and then too short.
 pub fn any(rng: &mut Rng) -> Case {

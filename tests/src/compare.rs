@@ -3,6 +3,7 @@
 
 use crate::engine;
 use crate::journals::RECORD;
+use second::slow::{self, Policy};
 use second::{Report, Run};
 use std::fmt;
 use std::ops::Range;
@@ -77,7 +78,10 @@ fn pattern(place: usize) -> u8 {
 
 /// Runs an engine on guarded copies. An error says which bytes it should not
 /// have touched.
-fn run_guarded(run: Run, case: &Case) -> Result<Outcome, String> {
+fn run_guarded(
+    run: impl Fn(&[u8], &mut [u8], usize, usize, &mut [u8]) -> Report,
+    case: &Case,
+) -> Result<Outcome, String> {
     let file = Guarded::new(&case.file);
     let mut journal = Guarded::new(&case.journal);
     let mut answers = Guarded::new(&case.answers);
@@ -108,7 +112,11 @@ fn run_guarded(run: Run, case: &Case) -> Result<Outcome, String> {
 
 /// Gives the case to both engines. Where they agree, hands on the outcome;
 /// otherwise says how they differ.
-pub fn compare_one(run: Run, reference: Run, case: &Case) -> Result<Outcome, String> {
+pub fn compare_one(
+    run: Run,
+    reference: impl Fn(&[u8], &mut [u8], usize, usize, &mut [u8]) -> Report,
+    case: &Case,
+) -> Result<Outcome, String> {
     let outcome = run_guarded(run, case)?;
     let expected = run_guarded(reference, case).map_err(|fault| format!("reference {fault}"))?;
     if outcome == expected {
@@ -163,11 +171,35 @@ pub struct Checker {
 }
 
 impl Checker {
-    /// Checks one case; where the engines differ, ends the test with the
-    /// smallest such case found.
+    /// Checks one case against the engine that its file is compared with.
     pub fn check(&mut self, case: &Case) -> Outcome {
-        let reference = engine::reference(&case.file);
-        match compare_one(engine::under_test, reference, case) {
+        self.check_against(engine::reference(&case.file), case)
+    }
+
+    /// Checks one case against this engine.
+    pub fn check_against(&mut self, reference: Run, case: &Case) -> Outcome {
+        let compared = compare_one(engine::under_test, reference, case);
+        self.agreed(case, compared, reference)
+    }
+
+    /// Checks one case against the slow engine, which has read its file already.
+    pub fn check_read(&mut self, policy: &Policy, case: &Case) -> Outcome {
+        let run = |_: &[u8], journal: &mut [u8], used, limit, answers: &mut [u8]| {
+            policy.run(journal, used, limit, answers)
+        };
+        let compared = compare_one(engine::under_test, run, case);
+        self.agreed(case, compared, slow::run)
+    }
+
+    /// Counts what came out; where the engines differ, ends the test with the
+    /// smallest such case found.
+    fn agreed(
+        &mut self,
+        case: &Case,
+        compared: Result<Outcome, String>,
+        reference: Run,
+    ) -> Outcome {
+        match compared {
             Ok(outcome) => {
                 self.count(case, &outcome);
                 outcome
@@ -202,6 +234,9 @@ pub fn failure(run: Run, reference: Run, case: &Case) -> String {
     format!("{} differs on\n{smallest}{difference}", engine::NAME)
 }
 
+/// The most records of a case that are shown: more than these no journal keeps.
+const MOST_SHOWN: usize = 4_096;
+
 impl fmt::Display for Case {
     fn fmt(&self, f: &mut fmt::Formatter) -> fmt::Result {
         writeln!(f, "file of {} bytes:", self.file.len())?;
@@ -210,8 +245,13 @@ impl fmt::Display for Case {
         }
         let buffer = self.journal.len();
         writeln!(f, "journal buffer of {buffer} bytes, used {}:", self.used)?;
-        for record in self.journal[..self.used.min(buffer)].chunks(RECORD) {
+        let records = self.journal[..self.used.min(buffer)].chunks(RECORD);
+        let more = records.len().saturating_sub(MOST_SHOWN);
+        for record in records.take(MOST_SHOWN) {
             writeln!(f, "  {record:02X?}")?;
+        }
+        if more > 0 {
+            writeln!(f, "  and {more} more")?;
         }
         writeln!(
             f,

@@ -19,16 +19,15 @@ pub const NAME: &str = if cfg!(feature = "proved") {
 /// only the slow engine is left to compare with, and few will do.
 pub const LARGE_FILES: usize = if cfg!(feature = "proved") { 60 } else { 15 };
 
-/// The longest list for which the slow engine is quick enough on a gate run.
+/// The longest list for which the slow engine is quick enough in every case of a
+/// gate run.
 const LONGEST_SLOW_LIST: usize = 400;
 
 /// The engine to compare with on this file: the slow one, and for long lists
 /// the fast sibling unless it is itself under test.
 pub fn reference(file: &[u8]) -> Run {
-    let is_long = match fast::read(file).and_then(|parsed| fast::list(&parsed)) {
-        Ok(list) => list.listed() > LONGEST_SLOW_LIST,
-        Err((code, _)) => code == 5,
-    };
+    let list = fast::read(file).and_then(|parsed| fast::list(&parsed));
+    let is_long = list.is_ok_and(|list| list.listed() > LONGEST_SLOW_LIST);
     if cfg!(feature = "proved") && is_long {
         fast::run
     } else {

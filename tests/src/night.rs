@@ -2,6 +2,7 @@
 //! program expects of them.
 
 use crate::journals::{self, RECORD};
+use crate::machine::call_name;
 use crate::made_up;
 use crate::rng::Rng;
 use crate::workspace::{program, root};
@@ -502,6 +503,7 @@ pub fn with_fault(
     fault: &str,
     count: usize,
 ) -> (Output, String) {
+    let name = call_name(name);
     let trace = format!("--trace={name}");
     let inject = format!("--inject={name}:{fault}:when={count}");
     traced(folder, &[&trace, &inject], limit)

@@ -1,12 +1,15 @@
 //! Codes 6, 7 and 8 at the length where they stop and one below, alone and
-//! together, and what a refusal leaves alone.
+//! together, what a refusal leaves alone, and buffers longer than any list.
 
-use against::cases::{accepted, from_empty, Accepted};
+use against::cases::{accepted, from_empty, used_far, Accepted};
 use against::compare::{Case, Checker};
-use against::journals::RECORD;
-use against::made_up;
+use against::journals::{self, RECORD};
+use against::machine::{is_tested, share};
+use against::night::NIGHT;
 use against::rng::Rng;
-use second::Report;
+use against::{kinds, made_up};
+use second::slow::Policy;
+use second::{fast, Report};
 
 const FILLER: u8 = 0x3C;
 
@@ -17,7 +20,8 @@ fn asking(seed: u64, count: usize) -> impl Iterator<Item = (Vec<u8>, usize, usiz
         let room = RECORD * policy.listed();
         (file, room, policy.queries())
     });
-    sized.filter(|(.., queries)| *queries > 0).take(count)
+    let asking = sized.filter(|(.., queries)| *queries > 0);
+    asking.take(share(count))
 }
 
 /// A case with buffers of these lengths.
@@ -90,6 +94,55 @@ fn longer_buffers_than_needed() {
         assert!(outcome.answers[queries..]
             .iter()
             .all(|byte| *byte == FILLER));
+    }
+    println!("{} calls", checker.calls);
+}
+
+/// Checks a file's runs in buffers that are used far beyond its list, against both
+/// engines, from this much of its uncut journal: it is kept, the rest is added, and
+/// every byte behind that stays.
+fn check_used_far(checker: &mut Checker, policy: &Policy, file: &[u8], records: usize) {
+    let uncut = journals::finished(file);
+    let mut rng = Rng::new(35);
+    let cases = used_far(&mut rng, file, &uncut[..RECORD * records]);
+    let tested = cases
+        .iter()
+        .enumerate()
+        .filter(|(count, _)| is_tested(*count));
+    for (_, case) in tested {
+        checker.check_against(fast::run, &case);
+        let outcome = checker.check_read(policy, &case);
+        assert_eq!(outcome.report.kept, records);
+        assert_eq!(outcome.report.used, uncut.len());
+        let (left, behind) = outcome.journal.split_at(uncut.len());
+        assert!(left == uncut && *behind == case.journal[uncut.len()..]);
+    }
+}
+
+#[test]
+fn used_far_beyond_the_list() {
+    let mut checker = Checker::default();
+    let made = accepted(36).filter(|made| made.uncut.len() > 4 * RECORD);
+    let made: Vec<Vec<u8>> = made.map(|made| made.file).take(4).collect();
+    for file in made.iter().map(Vec::as_slice).chain([NIGHT]) {
+        let policy = Policy::read(file).expect("accepted");
+        let all = journals::finished(file).len() / RECORD;
+        for records in [1, all / 2, all] {
+            check_used_far(&mut checker, &policy, file, records);
+        }
+    }
+    println!("{} calls", checker.calls);
+}
+
+/// The longest list there is: 4,096 records fill 36,864 bytes, and nothing of what
+/// is used behind them is kept.
+#[test]
+fn used_far_beyond_the_longest_list() {
+    let mut checker = Checker::default();
+    let file = kinds::one_name(1_024);
+    let policy = Policy::read(&file).expect("accepted");
+    for records in [4_095, 4_096] {
+        check_used_far(&mut checker, &policy, &file, records);
     }
     println!("{} calls", checker.calls);
 }

@@ -1,7 +1,8 @@
-//! The header, from C: compiled by the system's C compiler, linked with the
-//! proved library and run.
+//! The header, from C: compiled by the system's C compiler, or the one that the
+//! variable CC names, linked with the proved library and run.
 #![cfg(feature = "proved")]
 
+use against::machine::c_compiler;
 use against::workspace::root;
 use brimusket::Dropped;
 use std::fs;
@@ -11,7 +12,7 @@ use std::process::Command;
 /// What a program under `tests/c` prints.
 fn printed(name: &str) -> String {
     let program = Path::new(env!("CARGO_TARGET_TMPDIR")).join(name);
-    let compiled = Command::new("cc")
+    let compiled = Command::new(c_compiler())
         .args(["-std=c99", "-Wall", "-Wextra", "-Werror", "-pedantic"])
         .arg("-O2")
         .arg("-I")
@@ -21,7 +22,7 @@ fn printed(name: &str) -> String {
         .arg("-o")
         .arg(&program)
         .output()
-        .expect("a C compiler called cc");
+        .expect("a C compiler, cc or the one that CC names");
     let wrong = String::from_utf8_lossy(&compiled.stderr);
     assert!(compiled.status.success(), "{wrong}");
     let run = Command::new(&program).output().expect("the program runs");

@@ -39,6 +39,13 @@ END
 chmod +x $folder/brimusket
 "#;
 
+/// What tells the kind of the machine.
+const X86_64: &str = "#!/bin/sh\necho x86_64\n";
+const AARCH64: &str = "#!/bin/sh\necho aarch64\n";
+
+/// What `.ci/emulate` sets for a build on another machine.
+const LINKER: &str = "CARGO_TARGET_X86_64_UNKNOWN_LINUX_GNU_LINKER";
+
 /// A made-up repository, removed at the end.
 struct Repository(PathBuf);
 
@@ -58,6 +65,7 @@ impl Repository {
         repository.program("bin/brimusket", &command);
         repository.program("tools/rt", RT.as_bytes());
         repository.program("tools/cargo", CARGO.as_bytes());
+        repository.program("tools/uname", X86_64.as_bytes());
         repository
     }
 
@@ -80,6 +88,7 @@ impl Repository {
         let mut command = Command::new(path);
         command.args(["night", "a b", ""]);
         command.env("PATH", tools.expect("a path")).current_dir("/");
+        command.env_remove(LINKER);
         command.stdin(Stdio::piped()).stdout(Stdio::piped());
         let mut child = command.stderr(Stdio::piped()).spawn().expect("it starts");
         let mut input = child.stdin.take().expect("a pipe");
@@ -192,6 +201,19 @@ fn a_tool_that_is_missing_is_named() {
         told.contains("rt, which a build needs, is missing"),
         "{told}"
     );
+}
+
+#[test]
+fn a_machine_that_needs_an_emulator_is_told_and_nothing_is_built() {
+    let repository = Repository::new();
+    repository.program("tools/uname", AARCH64.as_bytes());
+    let (_, said) = repository.called();
+    assert_eq!(said.status.code(), Some(2));
+    let told = String::from_utf8_lossy(&said.stderr);
+    let words = "brimusket: the program is for x86-64, and this machine is aarch64: ";
+    assert!(told.starts_with(words), "{told}");
+    assert_eq!(repository.calls(), "");
+    assert!(!repository.0.join("target").exists());
 }
 
 #[test]

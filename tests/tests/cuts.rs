@@ -5,6 +5,7 @@
 use against::cases::from_empty;
 use against::compare::{Case, Checker};
 use against::journals;
+use against::machine::share;
 use against::made_up;
 use against::rng::Rng;
 
@@ -46,7 +47,7 @@ fn cut_and_limited_runs_end_in_the_uncut_journal() {
     let mut checker = Checker::default();
     let mut rng = Rng::new(41);
     let mut files = 0;
-    while files < 150 {
+    while files < share(150) {
         let file = made_up::any(&mut rng);
         let uncut = journals::finished(&file);
         if uncut.len() < 27 {
@@ -55,6 +56,6 @@ fn cut_and_limited_runs_end_in_the_uncut_journal() {
         files += 1;
         assert_eq!(run_with_cuts(&mut rng, &mut checker, &file), uncut);
     }
-    assert!(checker.kept > 300, "{}", checker.kept);
+    assert!(checker.kept > share(300), "{}", checker.kept);
     println!("{} calls", checker.calls);
 }

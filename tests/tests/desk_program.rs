@@ -2,6 +2,7 @@
 //!
 //! Where it is missing, these tests fail.
 
+use against::machine::share;
 use against::made_up;
 use against::rng::Rng;
 use against::workspace::program;
@@ -59,7 +60,7 @@ fn prints_the_desk_cases() {
 #[cfg_attr(not(feature = "proved"), ignore = "needs the proved desk program")]
 fn prints_the_same_on_made_up_files() {
     let mut rng = Rng::new(51);
-    for _ in 0..250 {
+    for _ in 0..share(250) {
         let mut file = made_up::any(&mut rng);
         if rng.once_in(3) {
             file = made_up::damaged(&mut rng, file);

@@ -3,6 +3,7 @@
 use against::cases::{accepted, from_journal, with_any_journal, Accepted};
 use against::compare::Checker;
 use against::journals::{self, RECORD};
+use against::machine::{is_tested, share};
 use against::made_up;
 use against::rng::Rng;
 use second::slow::{Policy, Record};
@@ -21,7 +22,7 @@ const FILES: [&[u8]; 4] = [
 /// So many accepted files with more than one record to their journals.
 fn recording(seed: u64, count: usize) -> impl Iterator<Item = Accepted> {
     let files = accepted(seed).filter(|made| made.uncut.len() > RECORD);
-    files.take(count)
+    files.take(share(count))
 }
 
 #[test]
@@ -79,6 +80,7 @@ fn every_two_records_exchanged() {
 #[test]
 fn every_other_record_for_the_formula() {
     let mut checker = Checker::default();
+    let mut row = 0..;
     for file in [CASE_2, b"H + b c\nQ + c b\nQ > b c\n"] {
         let uncut = journals::finished(file);
         let listed = Policy::read(file).expect("accepted").listed();
@@ -87,6 +89,9 @@ fn every_other_record_for_the_formula() {
             let own = Record::from_bytes(&uncut[start..]).expect("a record");
             for rule in 0..=9 {
                 for (first, second) in premises().flat_map(|p| premises().map(move |q| (p, q))) {
+                    if !row.next().is_some_and(is_tested) {
+                        continue;
+                    }
                     let forged = Record {
                         rule,
                         first,
@@ -115,7 +120,7 @@ fn any_good_record_instead_of_the_next() {
         assert_eq!(outcome.report.used, made.uncut.len());
         in_another_order += usize::from(!made.uncut.starts_with(&journal));
     }
-    assert!(in_another_order > 500, "{in_another_order}");
+    assert!(in_another_order > share(500), "{in_another_order}");
     println!("{} calls", checker.calls);
 }
 
@@ -137,7 +142,7 @@ fn spoiled() {
         }
         checker.check(&case);
     }
-    assert!(checker.kept_less > 400, "{}", checker.kept_less);
+    assert!(checker.kept_less > share(400), "{}", checker.kept_less);
     println!("{} calls", checker.calls);
 }
 
@@ -177,10 +182,10 @@ fn padded() {
 fn anything() {
     let mut checker = Checker::default();
     let mut rng = Rng::new(19);
-    for _ in 0..800 {
+    for _ in 0..share(800) {
         let file = made_up::any(&mut rng);
         checker.check(&with_any_journal(&mut rng, &file));
     }
-    assert!(checker.kept > 200);
+    assert!(checker.kept > share(200));
     println!("{} calls", checker.calls);
 }

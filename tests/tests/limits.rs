@@ -3,12 +3,14 @@
 use against::cases::{accepted, from_empty};
 use against::compare::{Case, Checker};
 use against::journals::RECORD;
+use against::machine::share;
 use against::rng::Rng;
 
 /// So many accepted files of 2 to 24 records, each with their number.
 fn short(seed: u64, count: usize) -> impl Iterator<Item = (Vec<u8>, usize)> {
     let files = accepted(seed).map(|made| (made.file, made.uncut.len() / RECORD));
-    files.filter(|(_, all)| (2..25).contains(all)).take(count)
+    let short = files.filter(|(_, all)| (2..25).contains(all));
+    short.take(share(count))
 }
 
 #[test]
@@ -29,7 +31,7 @@ fn every_limit_from_empty() {
             assert_eq!(rest, &case.journal[added.len()..]);
         }
     }
-    assert!(checker.answers[2] > 500, "{:?}", checker.answers);
+    assert!(checker.answers[2] > share(500), "{:?}", checker.answers);
     println!("{} calls", checker.calls);
 }
 

@@ -2,6 +2,7 @@
 
 use against::cases::from_empty;
 use against::compare::Checker;
+use against::machine::share;
 use against::made_up::{self, Edge, Maker};
 use against::rng::Rng;
 use against::{cases, engine};
@@ -10,7 +11,7 @@ use against::{cases, engine};
 fn check_many(seed: u64, count: usize, maker: Maker) -> Checker {
     let mut checker = Checker::default();
     let mut rng = Rng::new(seed);
-    for _ in 0..count {
+    for _ in 0..share(count) {
         let mut case = from_empty(&maker(&mut rng));
         if rng.once_in(2) {
             case.limit = rng.below(20);
@@ -24,7 +25,7 @@ fn check_many(seed: u64, count: usize, maker: Maker) -> Checker {
 /// Checks that each of no, yes and open was answered at least so often.
 fn assert_answered(checker: &Checker, least: usize) {
     assert!(
-        checker.answers.iter().all(|count| *count >= least),
+        checker.answers.iter().all(|count| *count >= share(least)),
         "{:?}",
         checker.answers
     );
@@ -54,14 +55,14 @@ fn late() {
 fn deep() {
     let checker = check_many(4, 400, made_up::deep);
     assert_answered(&checker, 50);
-    assert!(checker.codes[4] > 5, "{:?}", checker.codes);
+    assert!(checker.codes[4] > share(5), "{:?}", checker.codes);
 }
 
 #[test]
 fn large() {
     let mut checker = Checker::default();
     let mut rng = Rng::new(5);
-    for _ in 0..engine::LARGE_FILES {
+    for _ in 0..share(engine::LARGE_FILES) {
         checker.check(&from_empty(&made_up::large(&mut rng)));
     }
     println!("{} calls", checker.calls);
@@ -74,19 +75,23 @@ fn damaged() {
         let file = made_up::any(rng);
         made_up::damaged(rng, file)
     });
-    assert!(checker.codes[0] > 40, "{:?}", checker.codes);
-    assert!(checker.codes[2] > 1_000, "{:?}", checker.codes);
+    assert!(checker.codes[0] > share(40), "{:?}", checker.codes);
+    assert!(checker.codes[2] > share(1_000), "{:?}", checker.codes);
 }
 
 #[test]
 fn anything() {
     let mut checker = Checker::default();
-    for count in 0..1_500 {
+    for count in 0..share(1_500) as u64 {
         checker.check(&cases::any(&mut Rng::for_case(7, count)));
     }
     println!("{} calls", checker.calls);
     for code in [2, 4, 6, 7, 8] {
-        assert!(checker.codes[code] > 5, "code {code}: {:?}", checker.codes);
+        assert!(
+            checker.codes[code] > share(5),
+            "code {code}: {:?}",
+            checker.codes
+        );
     }
 }
 

@@ -158,10 +158,15 @@ fn a_link_or_a_folder_that_is_turned_during_the_call_is_told() {
     }
 }
 
-/// Waits until a process has opened a folder.
+/// Waits until the program in this process has opened a folder. Before it begins,
+/// a copy of the test may be there, with the folder open.
 fn wait_for_open(process: u32, folder: &Path) {
     let start = Instant::now();
     let is_open = || {
+        let words = fs::read(format!("/proc/{process}/cmdline")).ok()?;
+        words
+            .split(|byte| *byte == 0)
+            .find(|word| *word == b"night")?;
         let open = fs::read_dir(format!("/proc/{process}/fd")).ok()?;
         let mut files = open.flatten().flat_map(|file| fs::read_link(file.path()));
         files.find(|file| file == folder)

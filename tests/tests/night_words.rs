@@ -3,6 +3,7 @@
 #![cfg(feature = "proved")]
 
 use against::journals::{self, RECORD};
+use against::machine::{limit_stack, share};
 use against::made_up;
 use against::night::{
     brimusket, cannot, ended, expected, fails, goes_through, night, policies, stale, started, told,
@@ -165,7 +166,7 @@ fn with_questions(policy: &[u8], answers: &str) -> String {
 fn each_question_stands_behind_its_answer_where_that_is_wanted() {
     let mut rng = Rng::new(91);
     let mut files = policies(&mut rng);
-    files.extend((0..20).map(|_| made_up::lenders(&mut rng)));
+    files.extend((0..share(20)).map(|_| made_up::lenders(&mut rng)));
     for policy in files {
         let folder = Folder::with(&policy);
         let whole = expected(&policy, &[], MOST);
@@ -521,7 +522,7 @@ fn a_stack_of_256_kib_is_enough_and_a_small_one_changes_nothing() {
         for size in [8, 16, 24, 32, 48, 64, 96, 128, 160, 256, 512] {
             folder.set(&uncut[..RECORD]);
             let old = folder.contents();
-            let said = told(&mut folder.after(&format!("ulimit -s {size}")));
+            let said = told(&mut folder.after(&limit_stack(size)));
             if said.status == Some(0) {
                 assert_eq!(said, Told::new(0, &text, ""));
                 assert!(folder.kept() == uncut, "{size}");
@@ -571,7 +572,7 @@ fn desk_says_the_same(file: &[u8]) {
 #[test]
 fn the_desk_says_what_the_proved_desk_program_prints() {
     let mut rng = Rng::new(94);
-    for _ in 0..80 {
+    for _ in 0..share(80) {
         let mut file = made_up::any(&mut rng);
         if rng.once_in(3) {
             file = made_up::damaged(&mut rng, file);

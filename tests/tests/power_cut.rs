@@ -10,6 +10,7 @@
 #![cfg(feature = "proved")]
 
 use against::journals::{self, RECORD};
+use against::machine::{call_name, is_tested};
 use against::made_up;
 use against::night::{has_strace, leave_out, NIGHT, RESERVED as NEW};
 use against::rng::Rng;
@@ -354,13 +355,15 @@ struct Stops {
 impl Stops {
     /// One of the forces may be left out: the program takes it for done.
     fn start(room: &Room, disk: &Disk, limit: usize, left_out: Option<usize>) -> Stops {
+        let calls: Vec<&str> = CALLS.split(',').map(call_name).collect();
+        let calls = calls.join(",");
         let stop = |calls: &str| format!("--inject={calls}:signal=SIGSTOP");
         let fsync = match left_out {
             Some(count) => format!("--inject=fsync:retval=0:when={count}"),
             None => stop("fsync"),
         };
-        let trace = format!("--trace={CALLS},fsync");
-        let mut command = traced(room, &disk.place, limit, &[trace, stop(CALLS), fsync]);
+        let trace = format!("--trace={calls},fsync");
+        let mut command = traced(room, &disk.place, limit, &[trace, stop(&calls), fsync]);
         Stops {
             strace: command.spawn().expect("strace runs"),
             log: room.0.join("log"),
@@ -372,12 +375,27 @@ impl Stops {
         fs::read_to_string(&self.log).unwrap_or_default()
     }
 
+    /// The process of the program, in the log's first line.
+    fn process(log: &str) -> &str {
+        log.split_whitespace().next().unwrap_or_default()
+    }
+
+    /// How often it has stopped. An emulator has another thread, which stops too.
+    fn stopped(&self) -> usize {
+        let log = self.log();
+        let process = Stops::process(&log);
+        let stops = log
+            .lines()
+            .filter(|line| line.contains("--- stopped by SIGSTOP ---"));
+        stops.filter(|line| Stops::process(line) == process).count()
+    }
+
     /// Waits until the program has stopped once more; false where it has ended.
     fn stops(&mut self) -> bool {
         let start = Instant::now();
         loop {
             let ended = self.strace.try_wait().expect("strace is ours");
-            let count = self.log().matches("--- stopped by SIGSTOP ---").count();
+            let count = self.stopped();
             if count > self.count || ended.is_some() {
                 self.count = count;
                 let failed = ended.is_some_and(|status| !status.success());
@@ -402,8 +420,8 @@ impl Stops {
 
     fn send(&self, signal: &str) {
         let log = self.log();
-        let program = log.split_whitespace().next().unwrap_or_default();
-        runs(Command::new("sh").args(["-c", "kill -$0 $1", signal, program]));
+        let process = Stops::process(&log);
+        runs(Command::new("sh").args(["-c", "kill -$0 $1", signal, process]));
     }
 }
 
@@ -497,10 +515,13 @@ fn judge_all(ways: &[&str], what: &str) {
         return;
     }
     let [night, long] = policies();
-    let (mut seen, mut images, mut calls) = (Vec::new(), 0, 0);
+    let (mut seen, mut images, mut calls, mut row) = (Vec::new(), 0, 0, 0..);
     for before in Before::ALL {
         for late in ways {
             for (policy, other) in [(&night, &long), (&long, &night)] {
+                if !row.next().is_some_and(is_tested) {
+                    continue;
+                }
                 let (names, mounted) = judge(&Case::new(policy, other, before), late);
                 seen.extend(names);
                 images += mounted;
@@ -509,7 +530,7 @@ fn judge_all(ways: &[&str], what: &str) {
         }
     }
     for name in CALLS.split(',').chain(["fsync"]) {
-        assert!(seen.iter().any(|seen| seen == name), "no {name}");
+        assert!(seen.iter().any(|seen| seen == call_name(name)), "no {name}");
     }
     say(&format!(
         "power_cut: {what}: {} moments of {calls} calls, {images} images mounted and finished: the old journal or the new one, \
@@ -571,10 +592,13 @@ fn a_force_that_is_left_out_is_noticed() {
         (2, Before::Fresh, NOWHERE, &LATE[..]),
         (3, Before::FreshTwice, NOWHERE, &LATE[..]),
     ];
-    let mut calls = 0;
+    let (mut calls, mut row) = (0, 0..);
     for (left_out, before, wrong, ways) in rows {
         let case = Case::new(&night, &long, before);
         for late in ways {
+            if !row.next().is_some_and(is_tested) {
+                continue;
+            }
             let notices = |moment: &Moment| case.wrong(moment) == Some(wrong);
             let seen = is_seen(|| moments(&case, late, Some(left_out)).iter().any(notices));
             assert!(seen, "{before:?}, {late}, without force {left_out}");
@@ -606,7 +630,7 @@ fn step(line: &str, place: &str, lock: &str) -> Option<&'static str> {
         "fsync" if of("journal.saved-1") => "force the saved file",
         "fsync" if of_folder => "force the folder",
         "linkat" => "save",
-        "rename" => "replace",
+        _ if name == call_name("rename") => "replace",
         "write" if words.contains("/answers>") => "print",
         _ => return None,
     })

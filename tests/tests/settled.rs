@@ -7,6 +7,7 @@ use against::cases;
 use against::compare::Case;
 use against::engine::{plain, reference};
 use against::journals::{self, RECORD};
+use against::machine::{is_tested, share};
 use against::rng::Rng;
 use brimusket::{Dropped, TEXT_BYTES};
 use second::Report;
@@ -135,7 +136,7 @@ fn any_room(rng: &mut Rng) -> usize {
 #[test]
 fn made_up_files_and_journals_are_settled_alike() {
     let mut counts = [0; 3];
-    for at in 0..3_000 {
+    for at in 0..share(3_000) as u64 {
         let mut rng = Rng::for_case(91, at);
         let case = cases::any(&mut rng);
         let printed = Printed {
@@ -144,7 +145,7 @@ fn made_up_files_and_journals_are_settled_alike() {
         };
         counts[assert_settled(&case, printed).dropped as usize] += 1;
     }
-    assert!(counts.iter().all(|count| *count > 40), "{counts:?}");
+    assert!(counts.iter().all(|count| *count > share(40)), "{counts:?}");
 }
 
 #[test]
@@ -153,7 +154,7 @@ fn a_journal_cut_at_any_byte_drops_a_torn_record_at_most() {
         questions: false,
         room: TEXT_BYTES,
     };
-    for accepted in cases::accepted(92).take(40) {
+    for accepted in cases::accepted(92).take(share(40)) {
         for cut in 0..=accepted.uncut.len().min(60) {
             let case = cases::from_journal(&accepted.file, &accepted.uncut[..cut]);
             let settled = assert_settled(&case, printed);
@@ -178,6 +179,7 @@ fn foreign_bytes_are_told_from_a_torn_record() {
         questions: true,
         room: TEXT_BYTES,
     };
+    let mut row = 0..;
     for first in [0, b'K', b'L', b'M', b'Q', 255] {
         for second in [0, b'P', b'Q', b'R', b'L'] {
             for (rule, length) in [0, 1, 8, 9, 255]
@@ -187,10 +189,33 @@ fn foreign_bytes_are_told_from_a_torn_record() {
                 let mut rest = vec![first, second, rule, 0, 0, 0, 0, 0];
                 rest.truncate(length);
                 for kept in [&good[..0], &good] {
-                    let case = cases::from_journal(file, &[kept, &rest[..]].concat());
-                    assert_settled(&case, printed);
+                    if row.next().is_some_and(is_tested) {
+                        let case = cases::from_journal(file, &[kept, &rest[..]].concat());
+                        assert_settled(&case, printed);
+                    }
                 }
             }
+        }
+    }
+}
+
+/// Used lengths far above that of the longest journal: all used records are counted,
+/// and what is not kept of them is told.
+#[test]
+fn a_journal_used_far_beyond_the_list_is_settled_alike() {
+    let printed = Printed {
+        questions: true,
+        room: TEXT_BYTES,
+    };
+    let mut rng = Rng::new(93);
+    for accepted in cases::accepted(94)
+        .filter(|made| !made.uncut.is_empty())
+        .take(8)
+    {
+        for case in cases::used_far(&mut rng, &accepted.file, &accepted.uncut) {
+            let settled = assert_settled(&case, printed);
+            assert_eq!(settled.records, case.used / RECORD);
+            assert_eq!(settled.dropped, Dropped::More);
         }
     }
 }

@@ -18,8 +18,8 @@ reportIn r =
       used = r .used;
     }
 
-abbrev pub leftIn : Reported → List ℕ → List ℕ → Outcome
-leftIn r journal answers = record { report = reportIn r; journal = journal; answers = answers }
+abbrev pub outcomeIn : Reported → List ℕ → List ℕ → Outcome
+outcomeIn r journal answers = record { report = reportIn r; journal = journal; answers = answers }
 
 abbrev pub settlementIn : Settled → Settlement
 settlementIn r = record { report = reportIn (r .report); records = r .records; dropped = r .dropped; length = r .length }

@@ -2,7 +2,7 @@
 ghost use mathlib.Core.Path.{_≡_};
 ghost use Rattle.infon.specs.Run.{run as ranOn};
 ghost use Rattle.settling.specs.Settled.{Settles};
-ghost use Rattle.brimusket.specs.Boundary.{leftIn, settlementIn};
+ghost use Rattle.brimusket.specs.Boundary.{outcomeIn, settlementIn};
 
 // What a run returns, laid out for C.
 #[repr(C)]
@@ -34,7 +34,7 @@ pub extern "C" fn brimusket_run(
     limit: usize,
     answers: &mut [u8],
 ) -> Reported
-    ensures { λ r. ⌜ leftIn r (now (journal .exit)) (now (answers .exit))
+    ensures { λ r. ⌜ outcomeIn r (now (journal .exit)) (now (answers .exit))
         ≡ ranOn (now (file .entry)) (now (journal .entry)) used limit (now (answers .entry)) ⌝ }
 {
     let report = run::run(file, journal, used, limit, answers);

@@ -1,28 +1,30 @@
 // The columns of the formula table that come from the list alone, one after the other. Form number m of node b stands at
 // b * STRIDE + m; `owners` has the form as which a formula was first listed, `cand` the number of every form of a base.
+use formulas::BASE;
+use formulas::BOTTOM;
+use formulas::COLUMNS;
+use formulas::LEFT;
+use formulas::PUTS;
+use formulas::RIGHT;
 use nodes::AND;
 use nodes::END;
 use nodes::SAID;
-use table::BOTTOM;
-use table::COLUMNS;
-use table::KIND;
-use table::LEFT;
-use table::PUTS;
-use table::RIGHT;
-use table::ROWS;
+use nodes::cell_at;
 ghost use mathlib.Core.Path.{_≡_};
 ghost use Prim.Native.Nat.{_*_, _<_, _≤_};
-ghost use lib.ListN.{length};
-ghost use Rattle.columns.specs.Columns.{stride, inwardKind, numberAt, kindColumn, putColumn, leftColumn, rightColumn, bottomColumn, columnOf, withColumn, filled, IsForm, IsOwner, Owner, Room};
+ghost use lib.ListN.{length, getD};
+ghost use Rattle.nodes.specs.Nodes.{nodeRows};
+ghost use Rattle.formulas.specs.Table.{tableColumns};
+ghost use Rattle.columns.specs.Columns.{baseColumn, stride, inwardKind, formNumber, kindColumn, putColumn, leftColumn, rightColumn, bottomColumn, columnOf, withColumn, filled, IsForm, IsOwner, Owner, Room};
 
 // How many forms a node has at most: two to the number of places.
 pub const STRIDE: usize = 16;
 
 // A part that is not there.
-const NONE: u16 = 65535;
+const NONE: u16 = formulas::NO_NUMBER as u16;
 
 // The form's number one quotation further in: said doubles it, put keeps it.
-fn inward(kind: u16, m: usize) -> usize
+fn inward(kind: usize, m: usize) -> usize
     requires { ⌜ m < 1024 ⌝ }
     ensures { λ r. ⌜ r ≡ inwardKind kind m ⌝ }
 {
@@ -33,17 +35,17 @@ fn inward(kind: u16, m: usize) -> usize
 }
 
 // The number of form m of node j: of the base below, where j is a quotation.
-pub fn number_at(nodes: &[u16], cand: &[u16], j: usize, m: usize) -> u16
-    requires { ⌜ IsForm (now nodes) j m × (1024 * stride ≤ length (now cand)) ⌝ }
-    ensures { λ r. ⌜ r ≡ numberAt (now (nodes .entry)) (now (cand .entry)) j m ⌝ }
+pub fn form_number(nodes: &[u16], cand: &[u16], j: usize, m: usize) -> u16
+    requires { ⌜ IsForm (now nodes) j m × (nodeRows * stride ≤ length (now cand)) ⌝ }
+    ensures { λ r. ⌜ r ≡ formNumber (now (nodes .entry)) (now (cand .entry)) j m ⌝ }
 {
     let mut at = j;
     let mut form = m;
-    let mut kind = nodes[at];
+    let mut kind = cell_at(nodes, nodes::KIND, at);
     while SAID <= kind {
         form = inward(kind, form);
         at += 1;
-        kind = nodes[at];
+        kind = cell_at(nodes, nodes::KIND, at);
     }
     cand[at * STRIDE + form]
 }
@@ -54,7 +56,7 @@ fn kind_of(nodes: &[u16], owners: &[u32], i: usize) -> u16
     ensures { λ r. ⌜ r ≡ kindColumn (now (nodes .entry)) (now (owners .entry)) i ⌝ }
 {
     let b = owners[i] as usize / STRIDE;
-    nodes[b]
+    cell_at(nodes, nodes::KIND, b) as u16
 }
 
 // The put places of formula i, which its key ends with.
@@ -73,10 +75,10 @@ fn left_of(nodes: &[u16], cand: &[u16], owners: &[u32], i: usize) -> u16
 {
     let owner = owners[i] as usize;
     let b = owner / STRIDE;
-    if nodes[b] < AND {
+    if cell_at(nodes, nodes::KIND, b) < AND {
         return NONE;
     }
-    number_at(nodes, cand, b + 1, owner % STRIDE)
+    form_number(nodes, cand, b + 1, owner % STRIDE)
 }
 
 // The number of the right part of formula i: it begins behind the left part's last node.
@@ -86,12 +88,12 @@ fn right_of(nodes: &[u16], cand: &[u16], owners: &[u32], i: usize) -> u16
 {
     let owner = owners[i] as usize;
     let b = owner / STRIDE;
-    if nodes[b] < AND {
+    if cell_at(nodes, nodes::KIND, b) < AND {
         return NONE;
     }
     let left = b + 1;
-    let right = nodes[END + left] as usize;
-    number_at(nodes, cand, right, owner % STRIDE)
+    let right = cell_at(nodes, END, left);
+    form_number(nodes, cand, right, owner % STRIDE)
 }
 
 // The number of the form of formula i that has put at every place: the last of its node's forms.
@@ -104,6 +106,15 @@ fn bottom_of(nodes: &[u16], cand: &[u16], owners: &[u32], i: usize) -> u16
     cand[b * STRIDE + last]
 }
 
+// The node of the base of formula i.
+fn base_of(owners: &[u32], i: usize) -> u16
+    requires { ⌜ (i < length (now owners)) × (getD (now owners) i 0 < nodeRows * stride) ⌝ }
+    ensures { λ r. ⌜ r ≡ baseColumn (now (owners .entry)) i ⌝ }
+{
+    let base = owners[i] as usize / STRIDE;
+    base as u16
+}
+
 // What a column has at formula i as far as the list tells it: no formula is marked as a hypothesis yet.
 fn cell_of(
     nodes: &[u16],
@@ -113,15 +124,16 @@ fn cell_of(
     column: usize,
     i: usize,
 ) -> u16
-    requires { ⌜ Owner (now nodes) (now cand) (now owners) i × (i < length (now keys)) × (column < 6) ⌝ }
+    requires { ⌜ Owner (now nodes) (now cand) (now owners) i × (i < length (now keys)) × (column < tableColumns) ⌝ }
     ensures { λ r. ⌜ r ≡ columnOf (now (nodes .entry)) (now (cand .entry)) (now (keys .entry)) (now (owners .entry)) column i ⌝ }
 {
     match column {
-        KIND => kind_of(nodes, owners, i),
+        formulas::KIND => kind_of(nodes, owners, i),
         PUTS => puts_of(keys, i),
         LEFT => left_of(nodes, cand, owners, i),
         RIGHT => right_of(nodes, cand, owners, i),
         BOTTOM => bottom_of(nodes, cand, owners, i),
+        BASE => base_of(owners, i),
         _ => 0,
     }
 }
@@ -136,13 +148,13 @@ fn fill_column(
     column: usize,
     table: &mut [u16],
 )
-    requires { ⌜ Room (now nodes) (now cand) (now owners) (now table) n × (n ≤ length (now keys)) × (column < 6) ⌝ }
-    ensures { λ _. ⌜ now (table .exit) ≡ withColumn (column * 4096) (columnOf (now (nodes .entry)) (now (cand .entry)) (now (keys .entry)) (now (owners .entry)) column) n (now (table .entry)) ⌝ }
+    requires { ⌜ Room (now nodes) (now cand) (now owners) (now table) n × (n ≤ length (now keys)) × (column < tableColumns) ⌝ }
+    ensures { λ _. ⌜ now (table .exit) ≡ withColumn column (columnOf (now (nodes .entry)) (now (cand .entry)) (now (keys .entry)) (now (owners .entry)) column) n (now (table .entry)) ⌝ }
 {
     let mut i = 0;
     while i < n {
         let cell = cell_of(nodes, cand, keys, owners, column, i);
-        table[column * ROWS + i] = cell;
+        formulas::set_cell(table, column, i, cell as usize);
         i += 1;
     }
 }

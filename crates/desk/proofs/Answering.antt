@@ -5,7 +5,7 @@ use mathlib.Core.Bool.{false}
 use mathlib.Core.List.{List}
 use lib.ListN.{length, replicate}
 use borrow.Author.Tests.{le-ltb}
-use Rattle.printing.specs.Placed.{Prints}
+use Rattle.writing.specs.Placed.{Prints}
 use Rattle.printing.specs.Printed.{printedOf}
 use Rattle.settling.specs.Settled.{textBytes, answerRoom, settledRun, textOf, settledText}
 use Rattle.desk.specs.Desk.{deskRun, deskText}

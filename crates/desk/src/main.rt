@@ -3,9 +3,12 @@
 use input::Got;
 use libc::STDIN_FILENO;
 use libc::STDOUT_FILENO;
+use settling::EVERY_RECORD;
+use settling::JOURNAL_BYTES;
+use settling::TEXT_BYTES;
 ghost use Prim.Native.Nat.{_≤_};
 ghost use lib.ListN.{length};
-ghost use Rattle.printing.specs.Placed.{Prints};
+ghost use Rattle.writing.specs.Placed.{Prints};
 ghost use Rattle.desk.specs.Desk.{deskText};
 
 // Runs a policy file from an empty journal to the end, puts what is to be printed into text, and returns its length.
@@ -13,8 +16,8 @@ fn answer(file: &[u8], text: &mut [u8]) -> usize
     requires { ⌜ 65536 ≤ length (now text) ⌝ }
     ensures { λ r. ⌜ Prints (deskText (now (file .entry))) (now (text .entry)) r (now (text .exit)) ⌝ }
 {
-    let mut journal = [0u8; 36864];
-    let settled = settling::settle(file, &mut journal, 0, 4096, false, text);
+    let mut journal = [0u8; JOURNAL_BYTES];
+    let settled = settling::settle(file, &mut journal, 0, EVERY_RECORD, false, text);
     settled.length
 }
 
@@ -26,7 +29,7 @@ fn main() {
         os::fail(b"standard input");
         return;
     };
-    let mut text = [0u8; 65536];
+    let mut text = [0u8; TEXT_BYTES];
     let length = answer(&file[..n], &mut text);
     if !io::write_all(STDOUT_FILENO, &text[..length]) {
         os::fail(b"standard output");

@@ -5,17 +5,32 @@ use mathlib.Core.Path.{_≡_, ap}
 use mathlib.Core.List.{List}
 use native.Mathlib.Omega.{arith}
 use lib.ListN.{length, set}
-use Rattle.links.specs.Chains.{Ready}
-use Rattle.cover.specs.Touched.{Covers, CoversBut, wantedAll, touching, takingAll}
-use Rattle.cover.proofs.Wanting.{all-long}
-use Rattle.cover.proofs.Covered.{covers-filled, covers-touched}
+use Rattle.links.specs.Chains.{Searchable}
+use Rattle.frontier.specs.Touched.{Covers, CoversBut, wantedAll, touching, takingAll}
+use Rattle.frontier.proofs.Wanting.{all-long}
+use Rattle.frontier.proofs.Covered.{covers-filled, covers-touched}
+
+-- the search asks of the marks only that they are long enough
+pub ready-marked : {t links marks after : List ℕ} {n : ℕ} → Searchable t links marks n → length after ≡ length marks → Searchable t links after n
+ready-marked ready e =
+    let long = ready .marks-long in
+    record {
+      few = ready .few;
+      table-long = ready .table-long;
+      links-long = ready .links-long;
+      marks-long = omega arith;
+      below = ready .below;
+      left-chains = ready .left-chains;
+      right-chains = ready .right-chains;
+      bottom-chains = ready .bottom-chains;
+    }
 
 -- The set has its words, and it covers.
 pub record Covering (t : List ℕ) (n : ℕ) (marks cover : List ℕ) : Type 0 where
   pub long : length cover ≡ 64
   pub covers : Covers t n marks cover
 
-module _ {t links marks : List ℕ} {n : ℕ} (ready : Ready t links marks n) (cover : List ℕ) {after : List ℕ} where
+module _ {t links marks : List ℕ} {n : ℕ} (ready : Searchable t links marks n) (cover : List ℕ) {after : List ℕ} where
   pub covering-filled : length cover ≡ 64 → after ≡ wantedAll t n marks cover (takingAll t n marks 0 n) → Covering t n marks after
   covering-filled long e =
       let same = all-long t n marks (takingAll t n marks 0 n) cover in

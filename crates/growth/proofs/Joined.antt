@@ -12,10 +12,10 @@ use Rattle.infon.specs.Journal.{recordBytes, spelledAll, next, followed, hasNon
 use Rattle.infon.specs.Run.{written}
 use Rattle.infon.proofs.Grown.{GoodRow, grown-good, next-good}
 use Rattle.infon.proofs.Missing.{grown-short}
-use Rattle.table.specs.Tests.{Held}
+use Rattle.formulas.specs.Tests.{Held}
 use Rattle.journal.specs.Kept.{markAll}
 use Rattle.journal.proofs.Holding.{held-more, held-row}
-use Rattle.links.specs.Chains.{Ready}
+use Rattle.links.specs.Chains.{Searchable}
 use Rattle.ways.proofs.Onward.{next-in}
 use Rattle.growth.specs.declared.Growth.{Growth}
 use Rattle.growth.specs.Grown.{grownIn, Roomy, Grows}
@@ -47,7 +47,7 @@ module _ (hyps fs : List Formula) (t : List ℕ) (n : ℕ) where
         (held-row hyps fs t n done (grown hyps fs done limit) marks (grown-good hyps fs done limit) held)
 
     -- a journal with room for the whole list has room for what is added to good records
-    pub room : (links journal : List ℕ) → Ready t links marks n → GoodRow hyps fs [] done → recordBytes * n ≤ length journal
+    pub room : (links journal : List ℕ) → Searchable t links marks n → GoodRow hyps fs [] done → recordBytes * n ≤ length journal
         → Roomy t links n marks journal (length done) limit
     unfolding recordBytes
     room links journal ready row long =

@@ -1,3 +1,4 @@
+pub mod Adding
 pub mod Covering
 pub mod Growing
 pub mod Joined

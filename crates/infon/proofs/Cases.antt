@@ -3,14 +3,15 @@
 use Prim.Native.Nat.{ℕ, zero, suc, _+_, _/_, _%_, _^_}
 use Prim.Native.String.{String}
 use mathlib.Core.Path.{_≡_, refl}
-use mathlib.Core.Bool.{true}
+use mathlib.Core.Bool.{Bool, true, false}
 use mathlib.Core.List.{List, [], _∷_, _++_, map}
 use lib.ListN.{length, take, drop, replicate}
 use Rattle.infon.specs.declared.Answer.{Answer}
-use Rattle.infon.specs.declared.Answer.the-variants.{No, Yes}
+use Rattle.infon.specs.declared.Answer.the-variants.{No, Yes, Open}
 use Rattle.infon.specs.declared.Report.{Report}
 use Rattle.infon.specs.Bytes
 use Rattle.infon.specs.Formula
+use Rattle.infon.specs.Codes
 use Rattle.infon.specs.Policy
 use Rattle.infon.specs.Listing
 use Rattle.infon.specs.Rules
@@ -20,10 +21,15 @@ use Rattle.infon.specs.Run.{Outcome}
 
 -- A row of the table. `asked`: run from an empty journal to the end, the file's queries get these answers. `listed`: the file's
 -- list is spelled so. `run-on`: over these journal bytes a run to the end keeps and adds so many records and leaves these bytes.
+-- `stopped`: over these journal bytes a run with this limit keeps and adds so many records, leaves these bytes, is not finished, and
+-- gives the file's queries these answers. `refuses`: a journal buffer of so many bytes and this used length get this code, at place
+-- 0, and both buffers stay as they were.
 pub data Row : Type 0 where
   asked : String → List Answer → Row
   listed : String → List String → Row
   run-on : String → List ℕ → ℕ → ℕ → List ℕ → Row
+  stopped : String → List ℕ → ℕ → ℕ → ℕ → List ℕ → List Answer → Row
+  refuses : String → ℕ → ℕ → ℕ → Row
 
 -- Both buffers are longer than what stands in them; the bytes behind are none that these records and answers have.
 unfoldable pub filled : ℕ → List ℕ → List ℕ
@@ -34,18 +40,28 @@ unfoldable pub enough : ℕ
 enough = 20
 
 unfoldable pub outcome : String → List ℕ → Outcome
-unfolding Bytes.bytes Bytes.lineFeed Bytes.space Bytes.alike Bytes.every Bytes.someOf Bytes.firstOf Formula.isNameByte Formula.isName Formula.isNamed Formula.letterOf Formula.words Formula.joined Formula.spelling Formula.onto Formula.tokens Formula.joinTwo Formula.quote Formula.takeWord Formula.takeNext Formula.readWords Formula.onlyOne Formula.formulaOf Formula.sameTold Formula.sameQuotation Formula.same Formula.nodes Formula.depth Policy.cut Policy.placed Policy.linesOf Policy.says Policy.inFront Policy.beforeFeed Policy.read Policy.sentenceOf Policy.isSome Policy.isWellFormed Policy.withEntry Policy.entriesFrom Policy.entriesOf Policy.formulaIn Policy.hypothesesOf Policy.queriesOf Policy.andThen Policy.when Policy.mostBytes Policy.code1 Policy.code2From Policy.code2 Policy.mostNodes Policy.code3From Policy.code3 Policy.mostDepth Policy.code4 Listing.wrap Listing.weakerTold Listing.inside Listing.insideEach Listing.weakerPrefixes Listing.weakened Listing.weakenedBases Listing.isListed Listing.enlist Listing.listFrom Listing.listOf Listing.mostListed Listing.code5From Listing.code5 Rules.shapeUnder Rules.shapeOf Rules.prefixUnder Rules.coreOf Rules.weakenings Rules.isTruth Rules.isLeft Rules.isRight Rules.areBoth Rules.isConclusion Rules.isCondition Rules.numbered Rules.gives Journal.isRecorded Journal.premisesIn Journal.isGood Journal.recordBytes Journal.noPremise Journal.ruleOf Journal.firstPremise Journal.secondPremise Journal.twoBytes Journal.spelled Journal.spelledAll Journal.alone Journal.withOne Journal.wayOf Journal.recordFor Journal.numberAt Journal.decoded Journal.wholeRecords Journal.followed Journal.onlyGood Journal.keptAfter Journal.keptOf Journal.numbersFrom Journal.eachPair Journal.allWays Journal.recordsFor Journal.allRecords Journal.next Journal.hasNone Journal.isFinished Journal.grown Run.answerByte Run.answerOf Run.isOnRecord Run.answersOf Run.fileVerdict Run.code6 Run.code7 Run.code8 Run.code9 Run.refusal Run.written Run.success Run.settled Run.run
+unfolding Bytes.bytes Bytes.lineFeed Bytes.space Bytes.alike Bytes.every Bytes.someOf Bytes.firstOf Formula.isNameByte Formula.isName Formula.isNamed Formula.letterOf Formula.words Formula.joined Formula.spelling Formula.onto Formula.tokens Formula.joinTwo Formula.quote Formula.takeWord Formula.takeNext Formula.readWords Formula.onlyOne Formula.formulaOf Formula.sameTold Formula.sameQuotation Formula.same Formula.nodes Formula.depth Policy.cut Policy.placed Policy.linesOf Policy.says Policy.inFront Policy.beforeFeed Policy.read Policy.sentenceOf Policy.isSome Policy.isWellFormed Policy.withEntry Policy.entriesFrom Policy.entriesOf Policy.formulaIn Policy.hypothesesOf Policy.queriesOf Codes.when Codes.andThen Codes.tried Codes.settled Policy.mostBytes Policy.code1 Policy.code2From Policy.code2 Policy.mostNodes Policy.code3From Policy.code3 Policy.mostDepth Policy.code4 Listing.wrap Listing.weakerTold Listing.inside Listing.insideEach Listing.weakerPrefixes Listing.weakened Listing.weakenedBases Listing.isListed Listing.enlist Listing.listFrom Listing.listOf Listing.mostListed Listing.code5From Listing.code5 Rules.shapeUnder Rules.shapeOf Rules.prefixUnder Rules.coreOf Rules.weakenings Rules.isTruth Rules.isLeft Rules.isRight Rules.areBoth Rules.isConclusion Rules.isCondition Rules.numbered Rules.gives Journal.isRecorded Journal.premisesIn Journal.isGood Journal.recordBytes Journal.noPremise Journal.ruleOf Journal.firstPremise Journal.secondPremise Journal.twoBytes Journal.spelled Journal.spelledAll Journal.alone Journal.withOne Journal.wayOf Journal.recordFor Journal.numberAt Journal.decoded Journal.wholeRecords Journal.followed Journal.onlyGood Journal.keptAfter Journal.keptOf Journal.numbersFrom Journal.eachPair Journal.allWays Journal.recordsFor Journal.allRecords Journal.next Journal.hasNone Journal.isFinished Journal.grown Run.answerByte Run.answerOf Run.isOnRecord Run.answersOf Run.fileCodes Run.code6 Run.code7 Run.code8 Run.code9 Run.refusal Run.written Run.success Run.run
 outcome file used = Run.run (Bytes.bytes file) (filled 72 used) (length used) enough (filled 5 [])
 
-unfoldable pub ended : ℕ → ℕ → List ℕ → Report
-ended kept added after = record { code = 0; place = 0; kept = kept; added = added; finished = true; used = length after }
+unfoldable pub reported : Bool → ℕ → ℕ → List ℕ → Report
+reported finished kept added after = record { code = 0; place = 0; kept = kept; added = added; finished = finished; used = length after }
 
 abbrev pub Holds : Row → Type 0
 Holds (asked file answers) =
     (outcome file [] .report .finished ≡ true) × (outcome file [] .answers ≡ filled 5 (map Run.answerByte answers))
 Holds (listed file fs) = map Formula.spelling (Listing.listOf (Policy.entriesOf (Bytes.bytes file))) ≡ map Bytes.bytes fs
 Holds (run-on file used kept added after) =
-    (outcome file used .report ≡ ended kept added after) × (outcome file used .journal ≡ filled 72 after)
+    (outcome file used .report ≡ reported true kept added after) × (outcome file used .journal ≡ filled 72 after)
+Holds (stopped file used limit kept added after answers) =
+    Run.run (Bytes.bytes file) (filled 72 used) (length used) limit (filled 5 [])
+    ≡ record { report = reported false kept added after; journal = filled 72 after; answers = filled 5 (map Run.answerByte answers) }
+Holds (refuses file size used code) =
+    Run.run (Bytes.bytes file) (filled size []) used enough (filled 5 [])
+    ≡ record {
+      report = record { code = code; place = 0; kept = 0; added = 0; finished = false; used = used };
+      journal = filled size [];
+      answers = filled 5 [];
+    }
 
 abbrev pub Each : List Row → Type 0
 Each [] = Unit {0}
@@ -82,8 +98,8 @@ whole = rows (r1 ∷ (r2 ∷ (r3 ∷ (r4 ∷ []))))
 unfoldable pub exchanged : List ℕ
 exchanged = rows (r2 ∷ (r1 ∷ (r3 ∷ (r4 ∷ []))))
 
--- The rows that 01 stars, in its order; and four that it names beside them: the two of case 11, rule 3 under an implication, and
--- the order of weaker prefixes.
+-- The rows that 01 stars, in its order; and others that it names beside them: the two of case 11, rule 3 under an implication, a
+-- premise that comes later, answers that the limit leaves open, the order of the codes, and that of weaker prefixes.
 unfoldable pub table : List Row
 table =
     -- 1: the empty file has nothing on its list, and its journal is finished
@@ -117,11 +133,18 @@ table =
     (run-on case2 (take 20 whole) 2 2 whole ∷
     (run-on case2 exchanged 4 0 exchanged ∷
     (run-on case2 (rows (r4 ∷ [])) 0 4 whole ∷
+    -- 2: its fourth record stands before one of its premises, and the reader stops there
+    (run-on case2 (rows (r2 ∷ (r4 ∷ (r1 ∷ (r3 ∷ []))))) 1 3 exchanged ∷
+    -- 2: with a limit of 2 no query is recorded yet; with one record more the second is
+    (stopped case2 [] 2 0 2 (take 18 whole) (Open ∷ (Open ∷ (Open ∷ []))) ∷
+    (stopped case2 (take 18 whole) 1 2 1 (take 27 whole) (Open ∷ (Yes ∷ (Open ∷ []))) ∷
+    -- 2: a buffer of 53 bytes is shorter than 9 × 6 and than the used length: the earlier code is given
+    (refuses case2 53 54 6 ∷
     -- the outermost place weighs most
-    (listed "Q S a S b c\n" ("S a S b c" ∷ ("S a P b c" ∷ ("P a S b c" ∷ ("P a P b c" ∷ [])))) ∷ []))))))))))))))))))))
+    (listed "Q S a S b c\n" ("S a S b c" ∷ ("S a P b c" ∷ ("P a S b c" ∷ ("P a P b c" ∷ [])))) ∷ []))))))))))))))))))))))))
 
 pub every-row : Each table
-unfolding table outcome filled enough ended rows highFirst whole exchanged Run.answerByte
+unfolding table outcome filled enough reported rows highFirst whole exchanged Run.answerByte
 every-row = (
   refl,
   (
@@ -158,7 +181,7 @@ every-row = (
                                   (refl, refl),
                                   (
                                     (refl, refl),
-                                    ((refl, refl), ((refl, refl), (refl, tt))),
+                                    ((refl, refl), ((refl, refl), ((refl, refl), (refl, (refl, (refl, (refl, tt))))))),
                                   ),
                                 ),
                               ),

@@ -155,8 +155,8 @@ with-none rule p q v w h lacks₁ lacks₂ e =
     ]
 
 -- the rule has this number, or is looked for further on
-tried : {A : Type 0} (rule k : ℕ) (x y : Option Way) (w : Way) → (rule ≡ k → x ≡ some w → A) → (y ≡ some w → A) → cond (eqb rule k) x y ≡ some w → A
-tried rule k x y w here later e =
+tries : {A : Type 0} (rule k : ℕ) (x y : Option Way) (w : Way) → (rule ≡ k → x ≡ some w → A) → (y ≡ some w → A) → cond (eqb rule k) x y ≡ some w → A
+tries rule k x y w here later e =
     elim (cond-cases (eqb rule k) x y (some w) e) [
       | inl found ↦ here (eqb-true rule k (found .0)) (found .1)
       | inr other ↦ later (other .1)
@@ -165,14 +165,14 @@ tried rule k x y w here later e =
 wayOf-spells : (rule p q : ℕ) (w : Way) → wayOf rule p q ≡ some w → Spells w rule p q
 unfolding wayOf ruleOf firstPremise secondPremise
 wayOf-spells rule p q w =
-    tried rule 1 _ _ w (λ h. with-none rule p q Hypothesis w h refl refl)
-    (tried rule 2 _ _ w (λ h. with-none rule p q Given w h refl refl)
-    (tried rule 3 _ _ w (λ h. with-one rule q (Weaken p) w h refl)
-    (tried rule 4 _ _ w (λ h. with-one rule q (Left p) w h refl)
-    (tried rule 5 _ _ w (λ h. with-one rule q (Right p) w h refl)
-    (tried rule 6 _ _ w (λ h. with-two rule (Both p q) w h)
-    (tried rule 7 _ _ w (λ h. with-two rule (Apply p q) w h)
-    (tried rule 8 _ _ w (λ h. with-one rule q (Attach p) w h refl)
+    tries rule 1 _ _ w (λ h. with-none rule p q Hypothesis w h refl refl)
+    (tries rule 2 _ _ w (λ h. with-none rule p q Given w h refl refl)
+    (tries rule 3 _ _ w (λ h. with-one rule q (Weaken p) w h refl)
+    (tries rule 4 _ _ w (λ h. with-one rule q (Left p) w h refl)
+    (tries rule 5 _ _ w (λ h. with-one rule q (Right p) w h refl)
+    (tries rule 6 _ _ w (λ h. with-two rule (Both p q) w h)
+    (tries rule 7 _ _ w (λ h. with-two rule (Apply p q) w h)
+    (tries rule 8 _ _ w (λ h. with-one rule q (Attach p) w h refl)
     (λ (e : none ≡ some w). absurd (Option·none-ne-some w e)))))))))
 
 -- a row from a place on, element by element

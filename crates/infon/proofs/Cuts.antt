@@ -4,21 +4,21 @@
 use Prim.Native.Nat.{ℕ, _+_, _*_, _/_, _≤_, zero-le, min}
 use native.Mathlib.Nat.{mul-div-le, mul-add, le-trans, le-of-eq, add-assoc}
 use native.Mathlib.Omega.{arith}
-use mathlib.Core.Path.{_≡_, refl, sym, _∙_, ap}
-use mathlib.Core.Bool.{Bool, true, false, not}
-use mathlib.Core.List.{List, [], _∷_, _++_, append-assoc, append-nil}
+use mathlib.Core.Path.{_≡_, refl, sym, _∙_, ap, subst}
+use mathlib.Core.Logic.{⊎-elim}
+use mathlib.Core.Bool.{true}
+use mathlib.Core.List.{List, [], _++_, append-assoc, append-nil}
 use lib.ListN.{length, take, drop, length-append, length-drop}
-use lib.Dec.{ltb}
 use lib.Seq.{take-all, take-take, take-at, drop-at, drop-drop, length-take-le}
-use borrow.Author.Tests.{ltb-false}
 use Rattle.infon.specs.declared.Record.{Record}
-use Rattle.infon.specs.Formula.{Formula, depth, nodes}
-use Rattle.infon.specs.Policy.{Line, Entry, formulaIn, isWellFormed, linesOf, entriesOf, hypothesesOf, queriesOf, Verdict, passed, refused, andThen, when, mostBytes, mostNodes, mostDepth, code1, code2From, code2, code3From, code3, code4}
-use Rattle.infon.specs.Listing.{listOf, enlist, weakenedBases, mostListed, code5From, code5}
+use Rattle.infon.specs.Formula.{Formula}
+use Rattle.infon.specs.Policy.{entriesOf, hypothesesOf, queriesOf}
+use Rattle.infon.specs.Listing.{listOf}
 use Rattle.infon.specs.Journal.{recordBytes, spelledAll, keptAfter, keptOf, grown, isFinished}
-use Rattle.infon.specs.Run.{Outcome, fileVerdict, code6, code7, code8, code9, refusal, written, success, settled, run}
+use Rattle.infon.specs.Run.{Outcome, refusal, written, success, run}
 use Rattle.infon.proofs.Codec.{length-spelledAll, spelledAll-append, take-spelledAll, wholeRecords-cong}
 use Rattle.infon.proofs.Grown.{kept-of-spelled, grown-good, take-grown, grown-add, finished-unique}
+use Rattle.infon.proofs.Refusals.{none-lets-pass, none-refused, refusal-given, given-or-not, given-numbered}
 
 -- What any history of runs and cuts, in any order and number, leaves of a buffer that was empty at first: its bytes and its
 -- used length. A cut leaves the first so many bytes; what stands behind them after it is anybody's.
@@ -60,112 +60,35 @@ module _ (buffer : List ℕ) (at : ℕ) (new : List ℕ) (fits : at + length new
       ∙ drop-drop (length more) (at + length new) buffer)
       ∙ simp (append-assoc, length-append, add-assoc)
 
--- a refusal's code is at least 1
-data Coded : Verdict → Type 0 where
-  none-applies : Coded passed
-  applies : (code place : ℕ) → 1 ≤ code → Coded (refused code place)
-
-andThen-coded : {v w : Verdict} → Coded v → Coded w → Coded (andThen v w)
-unfolding andThen
-andThen-coded none-applies second = second
-andThen-coded (applies code place h) second = applies code place h
-
-when-coded : (b : Bool) (code place : ℕ) → 1 ≤ code → Coded (when b code place)
-unfolding when
-when-coded true code place h = applies code place h
-when-coded false code place h = none-applies
-
-pub andThen-passed : (v w : Verdict) → andThen v w ≡ passed → (v ≡ passed) × (w ≡ passed)
-unfolding andThen
-andThen-passed passed w e = (refl, e)
-andThen-passed (refused code place) w e = (e, let z : _≡_ {A = ℕ} 0 1 = cc in absurd (omega arith))
-
-pub when-passed : (b : Bool) (code place : ℕ) → when b code place ≡ passed → b ≡ false
-unfolding when
-when-passed true code place e = cc
-when-passed false code place e = refl
-
-code2-coded : (lines : List Line) → Coded (code2From lines)
-unfolding code2From
-code2-coded [] = none-applies
-code2-coded (line ∷ rest) = andThen-coded (when-coded (not (isWellFormed line)) 2 (line .start) (omega arith)) (code2-coded rest)
-
-code3-coded : (count : ℕ) (entries : List Entry) → Coded (code3From count entries)
-unfolding code3From
-code3-coded count [] = none-applies
-code3-coded count (e ∷ rest) =
-    let now = count + nodes (formulaIn (e .sentence)) in
-    andThen-coded (when-coded (ltb mostNodes now) 3 (e .start) (omega arith)) (code3-coded now rest)
-
-code4-coded : (entries : List Entry) → Coded (code4 entries)
-unfolding code4
-code4-coded [] = none-applies
-code4-coded (e ∷ rest) = andThen-coded (when-coded (ltb mostDepth (depth (formulaIn (e .sentence)))) 4 (e .start) (omega arith)) (code4-coded rest)
-
-code5-coded : (fs : List Formula) (entries : List Entry) → Coded (code5From fs entries)
-unfolding code5From
-code5-coded fs [] = none-applies
-code5-coded fs (e ∷ rest) =
-    let now = enlist fs (weakenedBases [] (formulaIn (e .sentence))) in
-    andThen-coded (when-coded (ltb mostListed (length now)) 5 (e .start) (omega arith)) (code5-coded now rest)
-
-file-coded : (file : List ℕ) → Coded (fileVerdict file)
-unfolding fileVerdict code1 code2 code3 code5
-file-coded file =
-    let entries = entriesOf file in
-    andThen-coded (when-coded (ltb mostBytes (length file)) 1 0 (omega arith))
-    (andThen-coded (code2-coded (linesOf file))
-    (andThen-coded (code3-coded 0 entries) (andThen-coded (code4-coded entries) (code5-coded [] entries))))
-
--- an outcome is a refusal with a code of at least 1, or the one that was to be
-settled-cases : (P : Outcome → Type 0) (v : Verdict) (used : ℕ) (journal answers : List ℕ) (outcome : Outcome) → Coded v
+-- A run is refused with a code of at least 1, or no code is given and it keeps and adds.
+pub run-cases : (file journal : List ℕ) (used limit : ℕ) (answers : List ℕ) (P : Outcome → Type 0)
     → ((code place : ℕ) → 1 ≤ code → P (refusal code place used journal answers))
-    → (v ≡ passed → P outcome) → P (settled v used journal answers outcome)
-unfolding settled
-settled-cases P v used journal answers outcome none-applies not-passed was-passed = was-passed refl
-settled-cases P v used journal answers outcome (applies code place h) not-passed was-passed = not-passed code place h
-
-module _ (file journal : List ℕ) (used limit : ℕ) (answers : List ℕ) where
-  -- A run is refused with a code of at least 1, or no code applies and it keeps and adds.
-  pub run-cases : (P : Outcome → Type 0)
-      → ((code place : ℕ) → 1 ≤ code → P (refusal code place used journal answers))
-      → ((kept added : List Record) → kept ≡ keptOf (hypothesesOf (entriesOf file)) (listOf (entriesOf file)) journal used
-      → added ≡ grown (hypothesesOf (entriesOf file)) (listOf (entriesOf file)) kept limit → fileVerdict file ≡ passed → code9 kept added journal ≡ passed
-      → P (success (hypothesesOf (entriesOf file)) (listOf (entriesOf file)) (queriesOf (entriesOf file)) kept added journal answers))
-      → P (run file journal used limit answers)
-  unfolding run code6 code7 code8 code9
-  run-cases P not-passed was-passed =
-      let entries = entriesOf file in
-      let fs = listOf entries in
-      let kept = keptOf (hypothesesOf entries) fs journal used in
-      let added = grown (hypothesesOf entries) fs kept limit in
-      let last = andThen (code8 (queriesOf entries) answers) (code9 kept added journal) in
-      settled-cases P _ used journal answers _
-      (andThen-coded (file-coded file)
-      (andThen-coded (when-coded (ltb (length journal) (recordBytes * length fs)) 6 0 (omega arith))
-      (andThen-coded (when-coded (ltb (length journal) used) 7 0 (omega arith))
-      (andThen-coded (when-coded (ltb (length answers) (length (queriesOf entries))) 8 0 (omega arith))
-      (when-coded (ltb (length journal) (recordBytes * (length kept + length added))) 9 0 (omega arith))))))
-      not-passed
-      (λ (e : andThen (fileVerdict file) (andThen (code6 fs journal) (andThen (code7 journal used) last)) ≡ passed).
-      let one = andThen-passed (fileVerdict file) (andThen (code6 fs journal) (andThen (code7 journal used) last)) e in
-      let two = andThen-passed (code6 fs journal) (andThen (code7 journal used) last) (one .1) in
-      let three = andThen-passed (code7 journal used) last (two .1) in
-      let four = andThen-passed (code8 (queriesOf entries) answers) (code9 kept added journal) (three .1) in
-      was-passed kept added refl refl (one .0) (four .1))
+    → ((kept added : List Record) → kept ≡ keptOf (hypothesesOf (entriesOf file)) (listOf (entriesOf file)) journal used
+    → added ≡ grown (hypothesesOf (entriesOf file)) (listOf (entriesOf file)) kept limit
+    → recordBytes * (length kept + length added) ≤ length journal
+    → P (success (hypothesesOf (entriesOf file)) (listOf (entriesOf file)) (queriesOf (entriesOf file)) kept added journal answers))
+    → P (run file journal used limit answers)
+run-cases file journal used limit answers P refuses passes =
+    ⊎-elim
+    (λ none.
+    subst P (sym (none-refused file journal used limit answers none))
+    (passes _ _ refl refl (none-lets-pass file journal used limit answers none .room)))
+    (λ found.
+    subst P (sym (refusal-given file journal used limit answers (found .1 .1)))
+    (refuses (found .0) (found .1 .0) (given-numbered file journal used limit answers (found .1 .1))))
+    (given-or-not file journal used limit answers)
 
 -- If the kept records stand in front, the used part spells them and the added ones.
 pub success-spells : (hyps fs queries : List Formula) (kept added : List Record) (journal answers : List ℕ)
-    → take (recordBytes * length kept) journal ≡ spelledAll kept → code9 kept added journal ≡ passed
+    → take (recordBytes * length kept) journal ≡ spelledAll kept → recordBytes * (length kept + length added) ≤ length journal
     → take (success hyps fs queries kept added journal answers .report .used) (success hyps fs queries kept added journal answers .journal)
     ≡ spelledAll (kept ++ added)
-unfolding success code9
+unfolding success
 success-spells hyps fs queries kept added journal answers front room =
     let start = recordBytes * length kept in
     let used = recordBytes * (length kept + length added) in
     let places : start + length (spelledAll added) ≡ used = rw (length-spelledAll, mul-add) in
-    let enough : used ≤ length journal = ltb-false (length journal) used (when-passed (ltb (length journal) used) 9 0 room) in
-    let fits : start + length (spelledAll added) ≤ length journal = rw places enough in
+    let fits : start + length (spelledAll added) ≤ length journal = rw places room in
     rw (← places, take-written journal start (spelledAll added) fits, front, ← spelledAll-append kept added)
 
 -- The used part of a buffer is a beginning of what some number of records grows to from nothing.
@@ -230,7 +153,7 @@ module _ (hyps fs : List Formula) where
         rw (whole-kept, length-take-le (used / recordBytes) row whole-fits) (whole-begins ∙ take-spelledAll (used / recordBytes) row whole-fits)
 
     success-ended : (queries : List Formula) (limit : ℕ) (answers : List ℕ) (kept added : List Record) → kept ≡ keptOf hyps fs journal used
-        → added ≡ grown hyps fs kept limit → code9 kept added journal ≡ passed → Ended hyps fs (success hyps fs queries kept added journal answers)
+        → added ≡ grown hyps fs kept limit → recordBytes * (length kept + length added) ≤ length journal → Ended hyps fs (success hyps fs queries kept added journal answers)
     unfolding success
     success-ended queries limit answers kept added keeps adds room =
         let number = min (used / recordBytes) (standing .number) in
@@ -253,7 +176,7 @@ module _ (file : List ℕ) (short : length (listOf (entriesOf file)) ≤ 4096) w
       let entries = entriesOf file in
       run-cases file journal used limit answers (λ (o : Outcome). o .report .code ≡ 0 → Ended (hypothesesOf entries) (listOf entries) o)
       (λ code place h zero-code. absurd (omega arith))
-      (λ kept added keeps adds accepted room zero-code.
+      (λ kept added keeps adds room zero-code.
       success-ended (hypothesesOf entries) (listOf entries) short journal used standing (queriesOf entries) limit answers kept added keeps adds room)
 
   -- whatever runs and cuts have left is a beginning of it
@@ -265,7 +188,7 @@ module _ (file : List ℕ) (short : length (listOf (entriesOf file)) ≤ 4096) w
       let standing = reached-standing before once reached in
       run-cases file before once limit answers (λ (o : Outcome). Standing (hypothesesOf entries) (listOf entries) (o .journal) (o .report .used))
       (λ code place h. standing)
-      (λ kept added keeps adds accepted room.
+      (λ kept added keeps adds room.
       let outcome = success (hypothesesOf entries) (listOf entries) (queriesOf entries) kept added before answers in
       ended-standing (hypothesesOf entries) (listOf entries) outcome
       (success-ended (hypothesesOf entries) (listOf entries) short before once standing (queriesOf entries) limit answers kept added keeps adds room))
@@ -283,23 +206,3 @@ ended-same hyps fs one other first second done-one done-other =
       first .reaches ∙ ap (λ (row : List Record). recordBytes * length row) same ∙ sym (second .reaches),
       first .spells ∙ ap spelledAll same ∙ sym (second .spells),
     )
-
--- a run with code 0 was over an accepted file
-pub code-accepted : (file journal : List ℕ) (used limit : ℕ) (answers : List ℕ) → run file journal used limit answers .report .code ≡ 0
-    → fileVerdict file ≡ passed
-unfolding refusal
-code-accepted file journal used limit answers =
-    run-cases file journal used limit answers (λ (o : Outcome). o .report .code ≡ 0 → fileVerdict file ≡ passed)
-    (λ code place h zero-code. absurd (omega arith))
-    (λ kept added keeps adds accepted room zero-code. accepted)
-
-pub accepted-code5 : (file : List ℕ) → fileVerdict file ≡ passed → code5 (entriesOf file) ≡ passed
-unfolding fileVerdict
-accepted-code5 file e =
-    let entries = entriesOf file in
-    let from4 = andThen (code4 entries) (code5 entries) in
-    let from3 = andThen (code3 entries) from4 in
-    let behind1 = andThen-passed (code1 file) (andThen (code2 file) from3) e in
-    let behind2 = andThen-passed (code2 file) from3 (behind1 .1) in
-    let behind3 = andThen-passed (code3 entries) from4 (behind2 .1) in
-    andThen-passed (code4 entries) (code5 entries) (behind3 .1) .1

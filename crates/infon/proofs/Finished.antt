@@ -10,7 +10,7 @@ use borrow.Author.Tests.{lt-ltb}
 use Rattle.infon.specs.declared.Way.{Way}
 use Rattle.infon.specs.declared.Way.the-variants.{Hypothesis, Given, Weaken, Left, Right, Both, Apply, Attach}
 use Rattle.infon.specs.declared.Record.{Record}
-use Rattle.infon.specs.Formula.{Formula, True, and, implies, isNamed, same}
+use Rattle.infon.specs.Formula.{Formula, True, and, implies, same}
 use Rattle.infon.specs.Listing.{Prefix, wrap, isListed}
 use Rattle.infon.specs.Calculus.{Weaker, Derives}
 use Rattle.infon.specs.Rules.{shapeOf, isTruth, isLeft, isRight, areBoth, isConclusion, isCondition, numbered, gives}
@@ -157,12 +157,11 @@ module _ (hyps fs : List Formula) where
             (gives-attach (p .0) w x y (p .1 .1 .1));
       }
 
--- The list as it is proved to be: closed, holding the hypotheses, each formula once and of the language.
+-- The list as it is proved to be: closed, holding the hypotheses, each formula once.
 pub record List-of (hyps fs : List Formula) : Type 0 where
   pub closed : Closed (λ (x : Formula). isListed x fs)
   pub hypotheses : (x : Formula) → List·Memᴰ x hyps → isListed x fs ≡ true
   pub once : (m n : ℕ) → m < length fs → n < length fs → numbered fs m ≡ numbered fs n → m ≡ n
-  pub named : (z : Formula) → List·Memᴰ z fs → isNamed z ≡ true
 
 module _ (hyps fs : List Formula) (lists : List-of hyps fs) where
   -- demand 2, for formulas of the list: recorded in a finished journal exactly if derivable

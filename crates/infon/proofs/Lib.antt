@@ -14,10 +14,10 @@ pub mod Ascending
 pub mod Least
 pub mod Codec
 pub mod Grown
+pub mod Tried
+pub mod Refusals
 pub mod Cuts
 pub mod Sound
 pub mod Finished
 pub mod Missing
-pub mod Tried
-pub mod Refusals
 pub mod Demands

@@ -6,22 +6,22 @@ use native.Mathlib.Nat.{le-of-suc-le-suc, not-suc-le-zero}
 use native.Mathlib.Omega.{arith}
 use mathlib.Core.Path.{_≡_, refl, sym, _∙_, ap, subst}
 use mathlib.Core.Logic.{_⊎_, inl, inr, ⊎-elim}
-use mathlib.Core.Bool.{Bool, true, false, cond, true≢false, false≢true}
-use mathlib.Core.List.{List, [], _∷_, _++_, append-nil, append-assoc, List·Memᴰ, List·Memᴰ·head, List·Memᴰ·tail}
-use mathlib.Core.List.{List·Memᴰ·not-nil, List·Memᴰ·cases-cons, List·Memᴰ·append-cases, List·Memᴰ·eq-of-singleton}
-use mathlib.Core.List.{Memᴰ·cast, Memᴰ·append-left, Memᴰ·append-right}
+use mathlib.Core.Bool.{true, false, cond, true≢false}
+use mathlib.Core.List.{List, [], _∷_, _++_, append-nil, append-assoc, List·Memᴰ, List·Memᴰ·head, List·Memᴰ·tail, List·Memᴰ·not-nil, List·Memᴰ·cases-cons, List·Memᴰ·append-cases, List·Memᴰ·eq-of-singleton, Memᴰ·cast, Memᴰ·append-left, Memᴰ·append-right}
 use lib.ListN.{length, length-append}
 use lib.Dec.{ltb}
 use borrow.Author.Tests.{ltb-false}
 use Rattle.infon.specs.Formula.{Formula, True, name, and, implies, quoted}
-use Rattle.infon.specs.Policy.{Sentence, hypothesis, query, Entry, formulaIn, hypothesesOf, queriesOf, Verdict, passed, andThen, when}
+use Rattle.infon.specs.declared.Verdict.the-variants.{Passed}
+use Rattle.infon.specs.Codes.{when}
+use Rattle.infon.specs.Policy.{Sentence, hypothesis, query, Entry, formulaIn, hypothesesOf, queriesOf}
 use Rattle.infon.specs.Listing.{Prefix, wrap, weakened, weakenedBases, isListed, enlist, listFrom, listOf, mostListed, code5From, code5}
 use Rattle.infon.specs.Calculus.{Weaker, end, unchanged}
 use Rattle.infon.specs.Rules.{Shape, truth, primitive, conjunction, implication, shapeUnder, shapeOf, coreOf, weakenings, numbered}
 use Rattle.infon.proofs.Rows.{decided}
 use Rattle.infon.proofs.Locality.{Closed}
-use Rattle.infon.proofs.Prefixes.{listed-mem, mem-listed, shape-wrap, shape-wrap-and, shape-wrap-implies}
-use Rattle.infon.proofs.Prefixes.{mem-weakened, weakened-mem, weaker-weakenings, weakened-twice}
+use Rattle.infon.proofs.Tried.{when-passed, andThen-passed}
+use Rattle.infon.proofs.Prefixes.{listed-mem, mem-listed, shape-wrap, shape-wrap-and, shape-wrap-implies, mem-weakened, weakened-mem, weaker-weakenings, weakened-twice}
 
 -- a formula of a row has a number there
 pub listed-number : {x : Formula} {fs : List Formula} → List·Memᴰ x fs → (n : ℕ) × ((n < length fs) × (numbered fs n ≡ x))
@@ -40,20 +40,20 @@ numbered-mem (x ∷ fs) (suc n) h = List·Memᴰ·tail (numbered-mem fs n (le-of
 -- a row that begins with another
 pub record Begins (fs more : List Formula) : Type 0 where
   pub rest : List Formula
-  pub joined : more ≡ fs ++ rest
+  pub row : more ≡ fs ++ rest
 
 begins-refl : (fs : List Formula) → Begins fs fs
-begins-refl fs = record { rest = []; joined = sym (append-nil fs) }
+begins-refl fs = record { rest = []; row = sym (append-nil fs) }
 
 begins-trans : {fs more most : List Formula} → Begins fs more → Begins more most → Begins fs most
 begins-trans {fs} less further =
-    record { rest = less .rest ++ further .rest; joined = further .joined ∙ rw (less .joined, append-assoc) }
+    record { rest = less .rest ++ further .rest; row = further .row ∙ rw (less .row, append-assoc) }
 
 pub begins-keeps : {fs more : List Formula} {x : Formula} → Begins fs more → List·Memᴰ x fs → List·Memᴰ x more
-begins-keeps begins m = rw (begins .joined) (Memᴰ·append-left (begins .rest) m)
+begins-keeps begins m = rw (begins .row) (Memᴰ·append-left (begins .rest) m)
 
 pub begins-shorter : {fs more : List Formula} → Begins fs more → length fs ≤ length more
-begins-shorter begins = rw (begins .joined, length-append) (omega arith)
+begins-shorter begins = rw (begins .row, length-append) (omega arith)
 
 -- `enlist` with one formula, which is listed already or new
 abbrev enlistOne : List Formula → Formula → List Formula
@@ -67,7 +67,7 @@ enlistOne-cases fs x =
 
 enlistOne-begins : (fs : List Formula) (x : Formula) → Begins fs (enlistOne fs x)
 enlistOne-begins fs x =
-    ⊎-elim (λ old. rw (old .1) (begins-refl fs)) (λ new. record { rest = x ∷ []; joined = new .1 })
+    ⊎-elim (λ old. rw (old .1) (begins-refl fs)) (λ new. record { rest = x ∷ []; row = new .1 })
     (enlistOne-cases fs x)
 
 enlistOne-has : (fs : List Formula) (x : Formula) → List·Memᴰ x (enlistOne fs x)
@@ -343,22 +343,16 @@ pub numbered-injective : (entries : List Entry) (i j : ℕ) → i < length (list
     → numbered (listOf entries) i ≡ numbered (listOf entries) j → i ≡ j
 numbered-injective entries = distinct-numbers (listOf entries) (listOf-distinct entries)
 
--- code 5 is given if and only if the list is too long
-when-passed : (now : Bool) (code place : ℕ) {later : Verdict} → andThen (when now code place) later ≡ passed
-    → (now ≡ false) × (later ≡ passed)
-unfolding andThen when
-when-passed true code place h = absurd (false≢true (cc))
-when-passed false code place h = (refl, h)
-
-code5From-passed : (fs : List Formula) (es : List Entry) → length fs ≤ mostListed → code5From fs es ≡ passed
+-- where code 5 is not given, the list is short enough
+code5From-passed : (fs : List Formula) (es : List Entry) → length fs ≤ mostListed → code5From fs es ≡ Passed
     → length (listFrom fs es) ≤ mostListed
 unfolding code5From listFrom
 code5From-passed fs [] few h = few
 code5From-passed fs (e ∷ rest) few h =
     let now = enlist fs (weakenedBases [] (formulaIn (e .sentence))) in
-    let both = when-passed (ltb mostListed (length now)) 5 (e .start) h in
-    code5From-passed now rest (ltb-false mostListed (length now) (both .0)) (both .1)
+    let both = andThen-passed (when (ltb mostListed (length now)) 5 (e .start)) (code5From now rest) h in
+    code5From-passed now rest (ltb-false mostListed (length now) (when-passed (ltb mostListed (length now)) 5 (e .start) (both .0))) (both .1)
 
-pub code5-passed : (entries : List Entry) → code5 entries ≡ passed → length (listOf entries) ≤ 4096
+pub code5-passed : (entries : List Entry) → code5 entries ≡ Passed → length (listOf entries) ≤ 4096
 unfolding code5 listOf mostListed
 code5-passed entries h = code5From-passed [] entries zero-le h

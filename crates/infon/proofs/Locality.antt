@@ -168,7 +168,7 @@ module _ (hyps : List Formula) (listed recorded : Formula → Bool) (closed : Cl
   derives-value : (z : Formula) → Derives hyps z → value listed recorded [] z ≡ true
   unfolding wrap
   derives-value z (hypothesis x m) = let here = complete .by-hypothesis x m in recorded-value [] x (here .0) (here .1)
-  derives-value z (given pref n) = value-under [] pref True ∙ value-given (reverse pref)
+  derives-value z (given pref) = value-under [] pref True ∙ value-given (reverse pref)
   derives-value z (weaken low high x le d) =
       value-under [] low x
       ∙ value-weaken (reverse low) (reverse high) x (weaker-reverse le) (sym (value-under [] high x) ∙ derives-value (under high x) d)
@@ -184,7 +184,7 @@ module _ (hyps : List Formula) (listed recorded : Formula → Bool) (closed : Cl
       value-under [] pref y
       ∙ value-apply (reverse pref) x y (sym (value-under [] pref x) ∙ derives-value (under pref x) d)
       (sym (value-under [] pref (implies x y)) ∙ derives-value (under pref (implies x y)) e)
-  derives-value z (attach pref x y n d) =
+  derives-value z (attach pref x y d) =
       value-under [] pref (implies x y)
       ∙ value-attach (reverse pref) x y (sym (value-under [] pref y) ∙ derives-value (under pref y) d)
 

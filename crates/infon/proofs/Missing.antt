@@ -70,7 +70,7 @@ module _ (hyps fs : List Formula) where
   row-count done rest (more d r later h row) =
       let step = recorded-gained done r h in
       let after = row-count (done ++ (r ∷ [])) later row in
-      let joined = ap recordedCount (append-assoc done (r ∷ []) later) in
+      let together = ap recordedCount (append-assoc done (r ∷ []) later) in
       omega arith
 
   none-recorded : recordedCount [] ≡ 0
@@ -114,7 +114,7 @@ module _ (hyps fs : List Formula) (lists : List-of hyps fs) where
   final = grown hyps fs [] (length fs)
 
   row-sound : (done : List Record) → GoodRow hyps fs [] done → Sound hyps fs done
-  row-sound done row = sound-row hyps fs (lists .named) [] done (sound-empty hyps fs (lists .named)) row
+  row-sound done row = sound-row hyps fs [] done (sound-empty hyps fs) row
 
   final-sound : Sound hyps fs final
   unfolding final
@@ -151,7 +151,7 @@ module _ (hyps fs : List Formula) (lists : List-of hyps fs) where
   unfolding missingCount isMissing
   one-less done r sound h =
       let good = good-is hyps fs done r h in
-      let found = derivable-final (r .formula) (good .below) (good-derives hyps fs (lists .named) done r sound h) in
+      let found = derivable-final (r .formula) (good .below) (good-derives hyps fs done r sound h) in
       count-gained (isMissing (done ++ (r ∷ []))) (isMissing done) 0 (length fs) (r .formula) (omega arith)
       (let low = good .below in omega arith) (rw (found, recorded-now done r)) (rw (found, good .fresh))
       (λ m apart. ap (λ (b : Bool). isRecorded m final && not b) (recorded-other m done r apart))
@@ -168,7 +168,7 @@ module _ (hyps fs : List Formula) (lists : List-of hyps fs) where
       let r = due .0 in
       let h = next-good hyps fs done r (due .1) in
       ap length (grown-some hyps fs done n r (due .1))
-      ∙ (ap suc (grown-count (done ++ (r ∷ [])) n (sound-more hyps fs (lists .named) done r sound h))
+      ∙ (ap suc (grown-count (done ++ (r ∷ [])) n (sound-more hyps fs done r sound h))
       ∙ (sym (suc-min-suc n (missingCount (done ++ (r ∷ [])))) ∙ ap (min (suc n)) (sym (one-less done r sound h)))))
       (finished-or-next hyps fs done)
 

@@ -1,17 +1,19 @@
--- Every formula on a file's list is one of the language: its names are names. So is every formula that derives from a file.
+-- Every formula on a file's list is one of the language: its names are names. What of the language derives from a file derives by
+-- formulas of the language alone.
 -- Assumes nothing.
 use Prim.Native.Nat.{ℕ}
-use mathlib.Core.Path.{_≡_, refl, _∙_, ap}
-use mathlib.Core.Logic.{⊎-elim}
-use mathlib.Core.Bool.{Bool, true}
+use mathlib.Core.Path.{_≡_, refl, sym, _∙_, ap}
+use mathlib.Core.Logic.{⊎-elim, _↔_}
+use mathlib.Core.Bool.{Bool, true, false, cond}
 use mathlib.Core.Option.{Option, none, some}
-use mathlib.Core.List.{List, [], _∷_, List·Memᴰ, List·Memᴰ·head, List·Memᴰ·tail, List·Memᴰ·not-nil, List·Memᴰ·cases-cons, List·Memᴰ·append-cases}
-use Rattle.infon.specs.Bytes.{every}
-use Rattle.infon.specs.Formula.{Quotation, Formula, True, name, and, implies, quoted, isName, isNamed}
+use mathlib.Core.List.{List, [], _∷_, map, List·Memᴰ, List·Memᴰ·head, List·Memᴰ·tail, List·Memᴰ·not-nil, List·Memᴰ·cases-cons, List·Memᴰ·append-cases}
+use Rattle.infon.specs.Bytes.{bytes, every}
+use Rattle.infon.specs.Formula.{Quotation, Formula, True, name, and, implies, quoted, isNameByte, isName, isNamed}
 use Rattle.infon.specs.Policy.{Line, Sentence, Entry, withEntry, entriesFrom, entriesOf, linesOf, sentenceOf, formulaIn, hypothesesOf}
 use Rattle.infon.specs.Listing.{Prefix, wrap, weakened, weakenedBases, listOf}
-use Rattle.infon.specs.Calculus.{under, Weaker, end, unchanged, lowered, Derives, hypothesis, given, weaken, left, right, both, apply, attach}
-use Rattle.infon.proofs.Rows.{and-true, true-and, in-three}
+use Rattle.infon.specs.Calculus.{under, Weaker, end, unchanged, lowered, Derives, hypothesis, given, weaken, left, right, both, apply, attach, through}
+use Rattle.infon.proofs.Rows.{and-true, true-and, decided, in-three}
+use Rattle.infon.proofs.Words.{every-append}
 use Rattle.infon.proofs.Prefixes.{mem-weakened}
 use Rattle.infon.proofs.Lines.{line-read}
 use Rattle.infon.proofs.Listed.{unskipped, listOf-only, hypotheses-listed}
@@ -87,45 +89,110 @@ unfolding entriesOf
 listed-named file z m =
     unskipped-named (entriesFrom (linesOf file)) (entries-named (linesOf file)) z (listOf-only (entriesFrom (linesOf file)) m)
 
-under-parts : (pref : List Quotation) (x : Formula) → isNamed (under pref x) ≡ true → (principalsNamed pref ≡ true) × (isNamed x ≡ true)
-unfolding under isNamed principalsNamed every
-under-parts [] x h = (refl, h)
-under-parts (q ∷ pref) x h =
-    let parts = and-true (isName (q .principal)) (isNamed (under pref x)) h in
-    let inside = under-parts pref x (parts .1) in
-    (true-and (parts .0) (inside .0), inside .1)
+-- Rules 2 and 8 may bring in names that are none. With "a" put for each of them, every formula is of the language, a formula of the
+-- language is what it was, and a derivation is one by the same rules.
+plainWord : List ℕ → List ℕ
+plainWord a = cond (isName a) a (bytes "a")
 
-under-named : (pref : List Quotation) (x : Formula) → principalsNamed pref ≡ true → isNamed x ≡ true → isNamed (under pref x) ≡ true
-unfolding under isNamed principalsNamed every
-under-named [] x hp hx = hx
-under-named (q ∷ pref) x hp hx =
-    let parts = and-true (isName (q .principal)) (principalsNamed pref) hp in
-    true-and (parts .0) (under-named pref x (parts .1) hx)
+plainPlace : Quotation → Quotation
+plainPlace q = record { told = q .told; principal = plainWord (q .principal) }
 
--- what a derivation from hypotheses of the language reaches is of the language; so is what it passes through, which it reaches too
-pub derived-named : (hyps : List Formula) → ((h : Formula) → List·Memᴰ h hyps → isNamed h ≡ true) → (z : Formula) → Derives hyps z
-    → isNamed z ≡ true
-unfolding isNamed
-derived-named hyps named z (hypothesis x m) = named z m
-derived-named hyps named z (given pref h) = h
-derived-named hyps named z (weaken weak strong x le d) =
-    let from = under-parts strong x (derived-named hyps named (under strong x) d) in
-    under-named weak x (weaker-named le (from .0)) (from .1)
-derived-named hyps named z (left pref x y d) =
-    let from = under-parts pref (and x y) (derived-named hyps named (under pref (and x y)) d) in
-    under-named pref x (from .0) (and-true (isNamed x) (isNamed y) (from .1) .0)
-derived-named hyps named z (right pref x y d) =
-    let from = under-parts pref (and x y) (derived-named hyps named (under pref (and x y)) d) in
-    under-named pref y (from .0) (and-true (isNamed x) (isNamed y) (from .1) .1)
-derived-named hyps named z (both pref x y dx dy) =
-    let one = under-parts pref x (derived-named hyps named (under pref x) dx) in
-    let other = under-parts pref y (derived-named hyps named (under pref y) dy) in
-    under-named pref (and x y) (one .0) (true-and (one .1) (other .1))
-derived-named hyps named z (apply pref x y dx di) =
-    let from = under-parts pref (implies x y) (derived-named hyps named (under pref (implies x y)) di) in
-    under-named pref y (from .0) (and-true (isNamed x) (isNamed y) (from .1) .1)
-derived-named hyps named z (attach pref x y h d) = h
+plain : Formula → Formula
+plain True = True
+plain (name a) = name (plainWord a)
+plain (and x y) = and (plain x) (plain y)
+plain (implies x y) = implies (plain x) (plain y)
+plain (quoted q x) = quoted (plainPlace q) (plain x)
 
-pub file-derived-named : (file : List ℕ) (z : Formula) → Derives (hypothesesOf (entriesOf file)) z → isNamed z ≡ true
-file-derived-named file =
-    derived-named (hypothesesOf (entriesOf file)) (λ h m. listed-named file h (hypotheses-listed (entriesOf file) h m))
+word-named : (a : List ℕ) → isName (plainWord a) ≡ true
+unfolding plainWord isName isNameByte every bytes
+word-named a = ⊎-elim (λ (h : isName a ≡ true). rw h h) (λ (h : isName a ≡ false). rw h) (decided (isName a))
+
+word-same : (a : List ℕ) → isName a ≡ true → plainWord a ≡ a
+unfolding plainWord
+word-same a h = rw h
+
+plain-named : (x : Formula) → isNamed (plain x) ≡ true
+unfolding plain plainPlace isNamed
+plain-named True = refl
+plain-named (name a) = word-named a
+plain-named (and x y) = true-and (plain-named x) (plain-named y)
+plain-named (implies x y) = true-and (plain-named x) (plain-named y)
+plain-named (quoted q x) = true-and (word-named (q .principal)) (plain-named x)
+
+plain-same : (x : Formula) → isNamed x ≡ true → plain x ≡ x
+unfolding plain plainPlace isNamed
+plain-same True h = refl
+plain-same (name a) h = ap name (word-same a h)
+plain-same (and x y) h =
+    let parts = and-true (isNamed x) (isNamed y) h in
+    rw (plain-same x (parts .0), plain-same y (parts .1))
+plain-same (implies x y) h =
+    let parts = and-true (isNamed x) (isNamed y) h in
+    rw (plain-same x (parts .0), plain-same y (parts .1))
+plain-same (quoted q x) h =
+    let parts = and-true (isName (q .principal)) (isNamed x) h in
+    rw (word-same (q .principal) (parts .0), plain-same x (parts .1))
+
+plain-under : (pref : List Quotation) (x : Formula) → plain (under pref x) ≡ under (map plainPlace pref) (plain x)
+unfolding plain under
+plain-under [] x = refl
+plain-under (q ∷ pref) x = ap (quoted (plainPlace q)) (plain-under pref x)
+
+plain-weaker : {v w : List Quotation} → Weaker v w → Weaker (map plainPlace v) (map plainPlace w)
+unfolding plainPlace
+plain-weaker end = end
+plain-weaker (unchanged q le) = unchanged (plainPlace q) (plain-weaker le)
+plain-weaker (lowered p le) = lowered (plainWord p) (plain-weaker le)
+
+module _ (hyps : List Formula) (named : (h : Formula) → List·Memᴰ h hyps → isNamed h ≡ true) where
+  -- a derivation by formulas of the language alone
+  abbrev Plainly : Formula → Type 0
+  Plainly z = (d : Derives hyps z) × (every isNamed (through d) ≡ true)
+
+  reached : (pref : List Quotation) (x : Formula) → isNamed (under (map plainPlace pref) (plain x)) ≡ true
+  reached pref x = ap isNamed (sym (plain-under pref x)) ∙ plain-named (under pref x)
+
+  plainly : (z : Formula) → Derives hyps z → Plainly (plain z)
+  unfolding plain through every
+  plainly z (hypothesis x m) = rw (plain-same x (named x m)) (hypothesis x m, true-and (named x m) refl)
+  plainly z (given pref) = rw (plain-under pref True) (given (map plainPlace pref), true-and (reached pref True) refl)
+  plainly z (weaken weak strong x le d) =
+      let from = rw (plain-under strong x) at (plainly (under strong x) d) in
+      rw (plain-under weak x)
+      (weaken (map plainPlace weak) (map plainPlace strong) (plain x) (plain-weaker le) (from .0), true-and (reached weak x) (from .1))
+  plainly z (left pref x y d) =
+      let from = rw (plain-under pref (and x y)) at (plainly (under pref (and x y)) d) in
+      rw (plain-under pref x) (left (map plainPlace pref) (plain x) (plain y) (from .0), true-and (reached pref x) (from .1))
+  plainly z (right pref x y d) =
+      let from = rw (plain-under pref (and x y)) at (plainly (under pref (and x y)) d) in
+      rw (plain-under pref y) (right (map plainPlace pref) (plain x) (plain y) (from .0), true-and (reached pref y) (from .1))
+  plainly z (both pref x y d e) =
+      let one = rw (plain-under pref x) at (plainly (under pref x) d) in
+      let other = rw (plain-under pref y) at (plainly (under pref y) e) in
+      rw (plain-under pref (and x y)) (
+        both (map plainPlace pref) (plain x) (plain y) (one .0) (other .0),
+        true-and (reached pref (and x y)) (every-append isNamed (through (one .0)) (through (other .0)) ∙ true-and (one .1) (other .1)),
+      )
+  plainly z (apply pref x y d e) =
+      let one = rw (plain-under pref x) at (plainly (under pref x) d) in
+      let other = rw (plain-under pref (implies x y)) at (plainly (under pref (implies x y)) e) in
+      rw (plain-under pref y) (
+        apply (map plainPlace pref) (plain x) (plain y) (one .0) (other .0),
+        true-and (reached pref y) (every-append isNamed (through (one .0)) (through (other .0)) ∙ true-and (one .1) (other .1)),
+      )
+  plainly z (attach pref x y d) =
+      let from = rw (plain-under pref y) at (plainly (under pref y) d) in
+      rw (plain-under pref (implies x y))
+      (attach (map plainPlace pref) (plain x) (plain y) (from .0), true-and (reached pref (implies x y)) (from .1))
+
+-- a formula of the language derives from a file exactly if it does by formulas of the language alone
+pub derives-plainly : (file : List ℕ) (z : Formula) → isNamed z ≡ true
+    → Derives (hypothesesOf (entriesOf file)) z
+    ↔ ((d : Derives (hypothesesOf (entriesOf file)) z) × (every isNamed (through d) ≡ true))
+derives-plainly file z named = (
+  λ d.
+      rw (plain-same z named)
+      at (plainly (hypothesesOf (entriesOf file)) (λ x m. listed-named file x (hypotheses-listed (entriesOf file) x m)) z d),
+  λ found. found .0,
+)

@@ -1,56 +1,28 @@
--- Demand 1, the codes: each is given exactly when its rule says and no earlier one's does, with the place that the table names.
+-- Demand 1, the codes: a run gives the first of its row whose rule holds, with the place that the table names, and none where none
+-- holds.
 -- Assumes nothing.
-use Prim.Native.Nat.{ℕ, zero, suc, _+_, _*_, _≤_, _<_}
+use Prim.Native.Nat.{ℕ, _+_, _*_, _≤_, _<_}
 use native.Mathlib.Omega.{arith}
-use mathlib.Core.Path.{_≡_, refl, sym, _∙_, ap, subst, subst₂}
-use mathlib.Core.Logic.{_⊎_, inl, inr, ⊎-elim, _↔_}
+use mathlib.Core.Path.{_≡_, refl, sym, _∙_, ap, subst}
+use mathlib.Core.Logic.{_⊎_, inl, inr, ⊎-elim}
 use mathlib.Core.Bool.{Bool, true, false, not}
 use mathlib.Core.List.{List, [], _∷_, _++_}
 use lib.ListN.{length, length-append}
 use lib.Dec.{ltb}
-use borrow.Author.Tests.{ltb-true, lt-ltb}
+use borrow.Author.Tests.{ltb-true, ltb-false, lt-ltb}
 use Rattle.infon.specs.declared.Record.{Record}
-use Rattle.infon.specs.Bytes.{every}
+use Rattle.infon.specs.declared.Verdict.{Verdict}
+use Rattle.infon.specs.declared.Verdict.the-variants.{Passed, Refused}
 use Rattle.infon.specs.Formula.{Formula, nodes, depth}
-use Rattle.infon.specs.Policy.{Line, linesOf, isWellFormed, Entry, entriesOf, formulaIn, hypothesesOf, queriesOf, Verdict, passed, refused, andThen, when, mostBytes, code1, code2From, code2, mostNodes, code3From, code3, mostDepth, code4}
+use Rattle.infon.specs.Codes.{andThen, when, tried, Code, First, None}
+use Rattle.infon.specs.Policy.{Line, linesOf, isWellFormed, Entry, entriesOf, formulaIn, hypothesesOf, queriesOf, mostBytes, code1, code2From, code2, mostNodes, code3From, code3, mostDepth, code4}
 use Rattle.infon.specs.Listing.{weakenedBases, enlist, listFrom, listOf, mostListed, code5From, code5}
 use Rattle.infon.specs.Journal.{recordBytes, keptOf, grown}
-use Rattle.infon.specs.Run.{fileVerdict, code6, code7, code8, code9, Outcome, refusal, success, settled, run}
+use Rattle.infon.specs.Run.{fileCodes, fileVerdict, code6, code7, code8, code9, Outcome, refusal, success, run}
+use Rattle.infon.specs.Board.{nodesIn, isShallow, FileTooLong, file-too-long, LineNotWellFormed, line-not-well-formed, TooManyNodes, too-many-nodes, TooDeep, too-deep, TooManyListed, too-many-listed, JournalTooShort, journal-too-short, UsedTooLong, used-too-long, AnswersTooShort, answers-too-short, NoRoom, no-room, fileRow, runRow}
 use Rattle.infon.proofs.Rows.{decided}
 use Rattle.infon.proofs.Listed.{enlist-begins, listFrom-append}
-use Rattle.infon.proofs.Tried.{when-true, when-false, passed-or-refused, refused-same, andThen-assoc, andThen-end, scanned, scanned-first, first-scanned, gone, counted, counted-over, over-counted, firstFrom, none-given, first-given}
-
--- the nodes of the lines so far
-unfoldable pub nodesIn : List Entry → ℕ
-nodesIn [] = 0
-nodesIn (e ∷ rest) = nodes (formulaIn (e .sentence)) + nodesIn rest
-
-unfoldable pub isShallow : Entry → Bool
-isShallow e = not (ltb mostDepth (depth (formulaIn (e .sentence))))
-
--- Rule code place: the table's row for the code says that it is given, with that place. "First" is said by what stands before.
-pub data Rule (file journal : List ℕ) (used limit : ℕ) (answers : List ℕ) : ℕ → ℕ → Type 0 where
-  file-too-long : mostBytes < length file → Rule file journal used limit answers 1 0
-  line-not-well-formed : (before after : List Line) (line : Line) → linesOf file ≡ before ++ (line ∷ after)
-      → every isWellFormed before ≡ true → isWellFormed line ≡ false → Rule file journal used limit answers 2 (line .start)
-  too-many-nodes : (before after : List Entry) (e : Entry) → entriesOf file ≡ before ++ (e ∷ after) → nodesIn before ≤ mostNodes
-      → mostNodes < nodesIn (before ++ (e ∷ [])) → Rule file journal used limit answers 3 (e .start)
-  too-deep : (before after : List Entry) (e : Entry) → entriesOf file ≡ before ++ (e ∷ after) → every isShallow before ≡ true
-      → isShallow e ≡ false → Rule file journal used limit answers 4 (e .start)
-  too-many-listed : (before after : List Entry) (e : Entry) → entriesOf file ≡ before ++ (e ∷ after)
-      → length (listOf before) ≤ mostListed → mostListed < length (listOf (before ++ (e ∷ [])))
-      → Rule file journal used limit answers 5 (e .start)
-  journal-too-short : length journal < recordBytes * length (listOf (entriesOf file)) → Rule file journal used limit answers 6 0
-  used-too-long : length journal < used → Rule file journal used limit answers 7 0
-  answers-too-short : length answers < length (queriesOf (entriesOf file)) → Rule file journal used limit answers 8 0
-  no-room :
-      length journal
-      < recordBytes
-      * (length (keptOf (hypothesesOf (entriesOf file)) (listOf (entriesOf file)) journal used)
-      + length
-      (grown (hypothesesOf (entriesOf file)) (listOf (entriesOf file))
-      (keptOf (hypothesesOf (entriesOf file)) (listOf (entriesOf file)) journal used) limit))
-      → Rule file journal used limit answers 9 0
+use Rattle.infon.proofs.Tried.{when-true, when-false, when-passed, andThen-passed, tried-append, scanned, scanned-first, first-scanned, gone, counted, counted-over, over-counted, Says, Speaks, silent, speaks, speaks-append, given-or-none, none-given, first-numbered, refuses, passes}
 
 -- ---- The verdicts of the codes, as searches through a row
 
@@ -93,7 +65,7 @@ addBases-grows : (fs : List Formula) (e : Entry) → length fs ≤ length (addBa
 unfolding addBases
 addBases-grows fs e =
     let begins = enlist-begins fs (weakenedBases [] (formulaIn (e .sentence))) in
-    let sum = ap length (begins .joined) ∙ length-append fs (begins .rest) in
+    let sum = ap length (begins .row) ∙ length-append fs (begins .rest) in
     omega arith
 
 code5-counted : (fs : List Formula) (entries : List Entry)
@@ -128,7 +100,7 @@ list-more before e = listFrom-append [] before (e ∷ [])
 
 -- code 3 and code 5 in the rules' own words
 code3-over : (before after : List Entry) (e : Entry) → nodesIn before ≤ mostNodes → mostNodes < nodesIn (before ++ (e ∷ []))
-    → code3From 0 (before ++ (e ∷ after)) ≡ refused 3 (e .start)
+    → code3From 0 (before ++ (e ∷ after)) ≡ Refused 3 (e .start)
 unfolding addNodes
 code3-over before after e within over =
     let passed-by = gone-nodes 0 before in
@@ -137,8 +109,8 @@ code3-over before after e within over =
     ∙ counted-over addNodes (λ (n : ℕ). n) addNodes-grows mostNodes 3 (λ (f : Entry). f .start) 0 before e after (omega arith) (omega arith)
 
 over-code3 : (entries : List Entry)
-    → (code3From 0 entries ≡ passed)
-    ⊎ ((at : ℕ) × ((code3From 0 entries ≡ refused 3 at)
+    → (code3From 0 entries ≡ Passed)
+    ⊎ ((at : ℕ) × ((code3From 0 entries ≡ Refused 3 at)
     × ((before : List Entry) × ((after : List Entry) × ((e : Entry) × ((entries ≡ before ++ (e ∷ after)) × ((nodesIn before ≤ mostNodes)
     × ((mostNodes < nodesIn (before ++ (e ∷ []))) × (at ≡ e .start)))))))))
 unfolding addNodes
@@ -160,7 +132,7 @@ over-code3 entries =
     (over-counted addNodes (λ (n : ℕ). n) addNodes-grows mostNodes 3 (λ (f : Entry). f .start) 0 entries (omega arith))
 
 code5-over : (before after : List Entry) (e : Entry) → length (listOf before) ≤ mostListed
-    → mostListed < length (listOf (before ++ (e ∷ []))) → code5From [] (before ++ (e ∷ after)) ≡ refused 5 (e .start)
+    → mostListed < length (listOf (before ++ (e ∷ []))) → code5From [] (before ++ (e ∷ after)) ≡ Refused 5 (e .start)
 unfolding listOf addBases
 code5-over before after e within over =
     let passed-by = ap length (gone-bases [] before) in
@@ -170,8 +142,8 @@ code5-over before after e within over =
     (subst (λ (fs : List Formula). mostListed < length (enlist fs (weakenedBases [] (formulaIn (e .sentence))))) (sym (gone-bases [] before)) (omega arith))
 
 pub over-code5 : (entries : List Entry)
-    → (code5From [] entries ≡ passed)
-    ⊎ ((at : ℕ) × ((code5From [] entries ≡ refused 5 at)
+    → (code5From [] entries ≡ Passed)
+    ⊎ ((at : ℕ) × ((code5From [] entries ≡ Refused 5 at)
     × ((before : List Entry) × ((after : List Entry) × ((e : Entry) × ((entries ≡ before ++ (e ∷ after)) × ((length (listOf before) ≤ mostListed)
     × ((mostListed < length (listOf (before ++ (e ∷ [])))) × (at ≡ e .start)))))))))
 unfolding listOf addBases
@@ -196,235 +168,286 @@ over-code5 entries =
 
 -- ---- The codes of a call
 
-neither-less : (m n : ℕ) → (m < n → ⊥) → (n < m → ⊥) → m ≡ n
-neither-less m n a b = omega arith
+not-less : (a b code : ℕ) → when (ltb a b) code 0 ≡ Passed → b ≤ a
+not-less a b code h = ltb-false a b (when-passed (ltb a b) code 0 h)
+
+-- a code whose test is that one number is below another, at place 0
+compares : (c : Code) (a b : ℕ) → ((place : ℕ) → c .rule place → (place ≡ 0) × (a < b)) → (a < b → c .rule 0) → Says c (when (ltb a b) (c .number) 0)
+compares c a b less rule =
+    record {
+      given =
+          λ place h.
+          when-true (ltb a b) (c .number) 0 (lt-ltb a b (less place h .1)) ∙ ap (Refused (c .number)) (sym (less place h .0));
+      either =
+          ⊎-elim (λ (h : ltb a b ≡ true). inr (0, (when-true (ltb a b) (c .number) 0 h, rule (ltb-true a b h))))
+          (λ (h : ltb a b ≡ false). inl (when-false (ltb a b) (c .number) 0 h))
+          (decided (ltb a b));
+    }
+
+module _ (file : List ℕ) where
+  says1 : Says (record { number = 1; rule = FileTooLong file }) (code1 file)
+  unfolding code1
+  says1 = compares _ mostBytes (length file) (λ place h. inside h) (λ h. file-too-long h)
+    where
+      inside : {place : ℕ} → FileTooLong file place → (place ≡ 0) × (mostBytes < length file)
+      inside (file-too-long h) = (refl, h)
+
+  says2 : Says (record { number = 2; rule = LineNotWellFormed file }) (code2 file)
+  unfolding code2
+  says2 =
+      record {
+        given = λ place h. given h;
+        either =
+            ⊎-elim (λ p. inl (code2-scanned (linesOf file) ∙ p))
+            (λ found.
+            let f = found .1 .1 in
+            inr (
+              found .0,
+              (
+                code2-scanned (linesOf file) ∙ found .1 .0,
+                subst (LineNotWellFormed file) (sym (f .here))
+                    (line-not-well-formed (f .before) (f .behind) (f .bad) (f .row) (f .all-good) (f .is-bad)),
+              ),
+            ))
+            (first-scanned isWellFormed 2 (λ (l : Line). l .start) (linesOf file));
+      }
+    where
+      given : {place : ℕ} → LineNotWellFormed file place → code2From (linesOf file) ≡ Refused 2 place
+      given (line-not-well-formed before after line row calm bad) =
+          code2-scanned (linesOf file)
+          ∙ (ap (scanned isWellFormed 2 (λ (l : Line). l .start)) row
+          ∙ scanned-first isWellFormed 2 (λ (l : Line). l .start) before line after calm bad)
+
+  says3 : Says (record { number = 3; rule = TooManyNodes file }) (code3 (entriesOf file))
+  unfolding code3
+  says3 =
+      record {
+        given = λ place h. given h;
+        either =
+            ⊎-elim (λ p. inl p)
+            (λ found.
+            let f = found .1 .1 in
+            inr (
+              found .0,
+              (
+                found .1 .0,
+                subst (TooManyNodes file) (sym (f .1 .1 .1 .1 .1 .1))
+                    (too-many-nodes (f .0) (f .1 .0) (f .1 .1 .0) (f .1 .1 .1 .0) (f .1 .1 .1 .1 .0) (f .1 .1 .1 .1 .1 .0)),
+              ),
+            ))
+            (over-code3 (entriesOf file));
+      }
+    where
+      given : {place : ℕ} → TooManyNodes file place → code3From 0 (entriesOf file) ≡ Refused 3 place
+      given (too-many-nodes before after e row within over) = ap (code3From 0) row ∙ code3-over before after e within over
+
+  says4 : Says (record { number = 4; rule = TooDeep file }) (code4 (entriesOf file))
+  says4 =
+      record {
+        given = λ place h. given h;
+        either =
+            ⊎-elim (λ p. inl (code4-scanned (entriesOf file) ∙ p))
+            (λ found.
+            let f = found .1 .1 in
+            inr (
+              found .0,
+              (
+                code4-scanned (entriesOf file) ∙ found .1 .0,
+                subst (TooDeep file) (sym (f .here))
+                    (too-deep (f .before) (f .behind) (f .bad) (f .row) (f .all-good) (f .is-bad)),
+              ),
+            ))
+            (first-scanned isShallow 4 (λ (e : Entry). e .start) (entriesOf file));
+      }
+    where
+      given : {place : ℕ} → TooDeep file place → code4 (entriesOf file) ≡ Refused 4 place
+      given (too-deep before after e row calm bad) =
+          code4-scanned (entriesOf file)
+          ∙ (ap (scanned isShallow 4 (λ (f : Entry). f .start)) row
+          ∙ scanned-first isShallow 4 (λ (f : Entry). f .start) before e after calm bad)
+
+  says5 : Says (record { number = 5; rule = TooManyListed file }) (code5 (entriesOf file))
+  unfolding code5
+  says5 =
+      record {
+        given = λ place h. given h;
+        either =
+            ⊎-elim (λ p. inl p)
+            (λ found.
+            let f = found .1 .1 in
+            inr (
+              found .0,
+              (
+                found .1 .0,
+                subst (TooManyListed file) (sym (f .1 .1 .1 .1 .1 .1))
+                    (too-many-listed (f .0) (f .1 .0) (f .1 .1 .0) (f .1 .1 .1 .0) (f .1 .1 .1 .1 .0) (f .1 .1 .1 .1 .1 .0)),
+              ),
+            ))
+            (over-code5 (entriesOf file));
+      }
+    where
+      given : {place : ℕ} → TooManyListed file place → code5From [] (entriesOf file) ≡ Refused 5 place
+      given (too-many-listed before after e row within over) = ap (code5From []) row ∙ code5-over before after e within over
+
+  -- the codes about the file alone
+  pub file-speaks : Speaks (fileRow file) (fileCodes file)
+  unfolding fileRow fileCodes
+  file-speaks =
+      speaks _ _ _ _ says1 (omega arith)
+      (speaks _ _ _ _ says2 (omega arith)
+      (speaks _ _ _ _ says3 (omega arith) (speaks _ _ _ _ says4 (omega arith) (speaks _ _ _ _ says5 (omega arith) silent))))
+
+  -- each of them passes where the file is accepted
+  pub record FilePasses : Type 0 where
+    pub short : length file ≤ mostBytes
+    pub formed : code2 file ≡ Passed
+    pub few : code3 (entriesOf file) ≡ Passed
+    pub shallow : code4 (entriesOf file) ≡ Passed
+    pub listed : code5 (entriesOf file) ≡ Passed
+
+  pub accepted-passes : fileVerdict file ≡ Passed → FilePasses
+  unfolding fileVerdict fileCodes tried code1
+  accepted-passes e =
+      let entries = entriesOf file in
+      let from5 = andThen (code5 entries) Passed in
+      let from4 = andThen (code4 entries) from5 in
+      let from3 = andThen (code3 entries) from4 in
+      let behind1 = andThen-passed (code1 file) (andThen (code2 file) from3) e in
+      let behind2 = andThen-passed (code2 file) from3 (behind1 .1) in
+      let behind3 = andThen-passed (code3 entries) from4 (behind2 .1) in
+      let behind4 = andThen-passed (code4 entries) from5 (behind3 .1) in
+      record {
+        short = not-less mostBytes (length file) 1 (behind1 .0);
+        formed = behind2 .0;
+        few = behind3 .0;
+        shallow = behind4 .0;
+        listed = andThen-passed (code5 entries) Passed (behind4 .1) .0;
+      }
 
 module _ (file journal : List ℕ) (used limit : ℕ) (answers : List ℕ) where
-  kept : List Record
+  abbrev kept : List Record
   kept = keptOf (hypothesesOf (entriesOf file)) (listOf (entriesOf file)) journal used
 
-  added : List Record
+  abbrev added : List Record
   added = grown (hypothesesOf (entriesOf file)) (listOf (entriesOf file)) kept limit
 
-  each : ℕ → Verdict
-  each zero = passed
-  each (suc zero) = code1 file
-  each (suc (suc zero)) = code2 file
-  each (suc (suc (suc zero))) = code3 (entriesOf file)
-  each (suc (suc (suc (suc zero)))) = code4 (entriesOf file)
-  each (suc (suc (suc (suc (suc zero))))) = code5 (entriesOf file)
-  each (suc (suc (suc (suc (suc (suc zero)))))) = code6 (listOf (entriesOf file)) journal
-  each (suc (suc (suc (suc (suc (suc (suc zero))))))) = code7 journal used
-  each (suc (suc (suc (suc (suc (suc (suc (suc zero)))))))) = code8 (queriesOf (entriesOf file)) answers
-  each (suc (suc (suc (suc (suc (suc (suc (suc (suc zero))))))))) = code9 kept added journal
-  each (suc (suc (suc (suc (suc (suc (suc (suc (suc (suc k)))))))))) = passed
+  says6 : Says (record { number = 6; rule = JournalTooShort file journal }) (code6 (listOf (entriesOf file)) journal)
+  unfolding code6
+  says6 = compares _ (length journal) (recordBytes * length (listOf (entriesOf file))) (λ place h. inside h) (λ h. journal-too-short h)
+    where
+      inside : {place : ℕ} → JournalTooShort file journal place → (place ≡ 0) × (length journal < recordBytes * length (listOf (entriesOf file)))
+      inside (journal-too-short h) = (refl, h)
 
-  rule-each : (code place : ℕ) → Rule file journal used limit answers code place → each code ≡ refused code place
-  unfolding each kept added code1 code2 code3 code5 code6 code7 code8 code9 listOf
-  rule-each code place (file-too-long h) = when-true (ltb mostBytes (length file)) 1 0 (lt-ltb mostBytes (length file) h)
-  rule-each code place (line-not-well-formed before after line row calm bad) =
-      code2-scanned (linesOf file)
-      ∙ (ap (scanned isWellFormed 2 (λ (l : Line). l .start)) row
-      ∙ scanned-first isWellFormed 2 (λ (l : Line). l .start) before line after calm bad)
-  rule-each code place (too-many-nodes before after e row within over) =
-      ap (code3From 0) row ∙ code3-over before after e within over
-  rule-each code place (too-deep before after e row calm bad) =
-      code4-scanned (entriesOf file)
-      ∙ (ap (scanned isShallow 4 (λ (f : Entry). f .start)) row
-      ∙ scanned-first isShallow 4 (λ (f : Entry). f .start) before e after calm bad)
-  rule-each code place (too-many-listed before after e row within over) =
-      ap (code5From []) row ∙ code5-over before after e within over
-  rule-each code place (journal-too-short h) =
-      when-true (ltb (length journal) (recordBytes * length (listOf (entriesOf file)))) 6 0
-      (lt-ltb (length journal) (recordBytes * length (listOf (entriesOf file))) h)
-  rule-each code place (used-too-long h) = when-true (ltb (length journal) used) 7 0 (lt-ltb (length journal) used h)
-  rule-each code place (answers-too-short h) =
-      when-true (ltb (length answers) (length (queriesOf (entriesOf file)))) 8 0
-      (lt-ltb (length answers) (length (queriesOf (entriesOf file))) h)
-  rule-each code place (no-room h) =
-      when-true (ltb (length journal) (recordBytes * (length kept + length added))) 9 0
-      (lt-ltb (length journal) (recordBytes * (length kept + length added)) h)
+  says7 : Says (record { number = 7; rule = UsedTooLong journal used }) (code7 journal used)
+  unfolding code7
+  says7 = compares _ (length journal) used (λ place h. inside h) (λ h. used-too-long h)
+    where
+      inside : {place : ℕ} → UsedTooLong journal used place → (place ≡ 0) × (length journal < used)
+      inside (used-too-long h) = (refl, h)
 
-  either-when : (a b code : ℕ) → (a < b → Rule file journal used limit answers code 0)
-      → (when (ltb a b) code 0 ≡ passed)
-      ⊎ ((place : ℕ) × ((when (ltb a b) code 0 ≡ refused code place) × Rule file journal used limit answers code place))
-  either-when a b code rule =
-      ⊎-elim (λ (less : ltb a b ≡ true). inr (0, (when-true (ltb a b) code 0 less, rule (ltb-true a b less))))
-      (λ (more : ltb a b ≡ false). inl (when-false (ltb a b) code 0 more))
-      (decided (ltb a b))
+  says8 : Says (record { number = 8; rule = AnswersTooShort file answers }) (code8 (queriesOf (entriesOf file)) answers)
+  unfolding code8
+  says8 = compares _ (length answers) (length (queriesOf (entriesOf file))) (λ place h. inside h) (λ h. answers-too-short h)
+    where
+      inside : {place : ℕ} → AnswersTooShort file answers place → (place ≡ 0) × (length answers < length (queriesOf (entriesOf file)))
+      inside (answers-too-short h) = (refl, h)
 
-  each-rule : (code : ℕ)
-      → (each code ≡ passed)
-      ⊎ ((place : ℕ) × ((each code ≡ refused code place) × Rule file journal used limit answers code place))
-  unfolding each kept added code1 code2 code3 code5 code6 code7 code8 code9
-  each-rule zero = inl refl
-  each-rule (suc zero) = either-when mostBytes (length file) 1 (λ h. file-too-long h)
-  each-rule (suc (suc zero)) =
-      ⊎-elim (λ p. inl (code2-scanned (linesOf file) ∙ p))
-      (λ found.
-      let f = found .1 .1 in
-      inr (
-        found .0,
-        (
-          code2-scanned (linesOf file) ∙ found .1 .0,
-          subst (Rule file journal used limit answers 2) (sym (f .here))
-              (line-not-well-formed (f .before) (f .behind) (f .bad) (f .row) (f .all-good) (f .is-bad)),
-        ),
-      ))
-      (first-scanned isWellFormed 2 (λ (l : Line). l .start) (linesOf file))
-  each-rule (suc (suc (suc zero))) =
-      ⊎-elim (λ p. inl p)
-      (λ found.
-      let f = found .1 .1 in
-      inr (
-        found .0,
-        (
-          found .1 .0,
-          subst (Rule file journal used limit answers 3) (sym (f .1 .1 .1 .1 .1 .1))
-              (too-many-nodes (f .0) (f .1 .0) (f .1 .1 .0) (f .1 .1 .1 .0) (f .1 .1 .1 .1 .0) (f .1 .1 .1 .1 .1 .0)),
-        ),
-      ))
-      (over-code3 (entriesOf file))
-  each-rule (suc (suc (suc (suc zero)))) =
-      ⊎-elim (λ p. inl (code4-scanned (entriesOf file) ∙ p))
-      (λ found.
-      let f = found .1 .1 in
-      inr (
-        found .0,
-        (
-          code4-scanned (entriesOf file) ∙ found .1 .0,
-          subst (Rule file journal used limit answers 4) (sym (f .here))
-              (too-deep (f .before) (f .behind) (f .bad) (f .row) (f .all-good) (f .is-bad)),
-        ),
-      ))
-      (first-scanned isShallow 4 (λ (e : Entry). e .start) (entriesOf file))
-  each-rule (suc (suc (suc (suc (suc zero))))) =
-      ⊎-elim (λ p. inl p)
-      (λ found.
-      let f = found .1 .1 in
-      inr (
-        found .0,
-        (
-          found .1 .0,
-          subst (Rule file journal used limit answers 5) (sym (f .1 .1 .1 .1 .1 .1))
-              (too-many-listed (f .0) (f .1 .0) (f .1 .1 .0) (f .1 .1 .1 .0) (f .1 .1 .1 .1 .0) (f .1 .1 .1 .1 .1 .0)),
-        ),
-      ))
-      (over-code5 (entriesOf file))
-  each-rule (suc (suc (suc (suc (suc (suc zero)))))) =
-      either-when (length journal) (recordBytes * length (listOf (entriesOf file))) 6 (λ h. journal-too-short h)
-  each-rule (suc (suc (suc (suc (suc (suc (suc zero))))))) = either-when (length journal) used 7 (λ h. used-too-long h)
-  each-rule (suc (suc (suc (suc (suc (suc (suc (suc zero)))))))) =
-      either-when (length answers) (length (queriesOf (entriesOf file))) 8 (λ h. answers-too-short h)
-  each-rule (suc (suc (suc (suc (suc (suc (suc (suc (suc zero))))))))) =
-      either-when (length journal) (recordBytes * (length kept + length added)) 9 (λ h. no-room h)
-  each-rule (suc (suc (suc (suc (suc (suc (suc (suc (suc (suc k)))))))))) = inl refl
+  says9 : Says (record { number = 9; rule = NoRoom kept added journal }) (code9 kept added journal)
+  unfolding code9
+  says9 = compares _ (length journal) (recordBytes * (length kept + length added)) (λ place h. inside h) (λ h. no-room h)
+    where
+      inside : {place : ℕ} → NoRoom kept added journal place → (place ≡ 0) × (length journal < recordBytes * (length kept + length added))
+      inside (no-room h) = (refl, h)
 
-  -- the verdict of a run: its nine codes, tried in order
-  verdict : Verdict
-  verdict = firstFrom each (Rule file journal used limit answers) rule-each each-rule 1 9
+  abbrev runCodes : List Verdict
+  runCodes =
+      fileCodes file
+      ++ (code6 (listOf (entriesOf file)) journal
+      ∷ (code7 journal used ∷ (code8 (queriesOf (entriesOf file)) answers ∷ (code9 kept added journal ∷ []))))
 
-  run-settled : run file journal used limit answers
-      ≡ settled verdict used journal answers
-      (success (hypothesesOf (entriesOf file)) (listOf (entriesOf file)) (queriesOf (entriesOf file)) kept added journal answers)
-  unfolding run verdict firstFrom each fileVerdict kept added
-  run-settled =
-      ap
-      (λ (v : Verdict).
-      settled v used journal answers
-      (success (hypothesesOf (entriesOf file)) (listOf (entriesOf file)) (queriesOf (entriesOf file)) kept added journal answers))
-      (simp (andThen-assoc, andThen-end))
+  run-speaks : Speaks (runRow file journal used limit answers) runCodes
+  unfolding runRow
+  run-speaks =
+      speaks-append (file-speaks file)
+      (speaks _ _ _ _ says6 (omega arith)
+      (speaks _ _ _ _ says7 (omega arith) (speaks _ _ _ _ says8 (omega arith) (speaks _ _ _ _ says9 (omega arith) silent))))
 
-  verdict-is : (v : Verdict) → verdict ≡ v
-      → run file journal used limit answers
-      ≡ settled v used journal answers
-      (success (hypothesesOf (entriesOf file)) (listOf (entriesOf file)) (queriesOf (entriesOf file)) kept added journal answers)
-  verdict-is v e = run-settled ∙ rw e
+  -- what a run does where no code is given
+  abbrev outcome : Outcome
+  outcome = success (hypothesesOf (entriesOf file)) (listOf (entriesOf file)) (queriesOf (entriesOf file)) kept added journal answers
 
-  rule-range : (code place : ℕ) → Rule file journal used limit answers code place → (1 ≤ code) × (code < 10)
-  rule-range code place (file-too-long h) = (omega arith, omega arith)
-  rule-range code place (line-not-well-formed before after line row calm bad) = (omega arith, omega arith)
-  rule-range code place (too-many-nodes before after e row within over) = (omega arith, omega arith)
-  rule-range code place (too-deep before after e row calm bad) = (omega arith, omega arith)
-  rule-range code place (too-many-listed before after e row within over) = (omega arith, omega arith)
-  rule-range code place (journal-too-short h) = (omega arith, omega arith)
-  rule-range code place (used-too-long h) = (omega arith, omega arith)
-  rule-range code place (answers-too-short h) = (omega arith, omega arith)
-  rule-range code place (no-room h) = (omega arith, omega arith)
-
-  passed-no-rule : verdict ≡ passed → (code place : ℕ) → Rule file journal used limit answers code place → ⊥
-  unfolding verdict
-  passed-no-rule h code place rule =
-      let range = rule-range code place rule in
-      none-given each (Rule file journal used limit answers) rule-each each-rule 1 9 h code place (range .0) (omega arith) rule
-
-  refused-rule : (code place : ℕ) → verdict ≡ refused code place
-      → Rule file journal used limit answers code place × ((c p : ℕ) → c < code → Rule file journal used limit answers c p → ⊥)
-  unfolding verdict
-  refused-rule code place h =
-      let found = first-given each (Rule file journal used limit answers) rule-each each-rule 1 9 code place h in
-      (found .1 .0, λ c p less rule. found .1 .1 c p (rule-range c p rule .0) less rule)
-
-  one-place : (code place c p : ℕ) → code ≡ c → Rule file journal used limit answers code place → Rule file journal used limit answers c p
-      → place ≡ p
-  one-place code place c p e rule other =
-      refused-same (sym (rule-each code place rule) ∙ (ap each e ∙ rule-each c p other)) .1
-
-  -- A code is given where its rule says so and no earlier one's does; then report and both buffers are those of a refusal.
-  pub refusal-given : (code place : ℕ) → Rule file journal used limit answers code place
-      → ((c p : ℕ) → c < code → Rule file journal used limit answers c p → ⊥)
+  -- The first of the row whose rule holds is given; then report and both buffers are those of a refusal.
+  pub refusal-given : {code place : ℕ} → First (runRow file journal used limit answers) code place
       → run file journal used limit answers ≡ refusal code place used journal answers
-  unfolding settled
-  refusal-given code place rule none-before =
-      ⊎-elim (λ (h : verdict ≡ passed). absurd (passed-no-rule h code place rule))
-      (λ found.
-      let c = found .0 in
-      let p = found .1 .0 in
-      let is = refused-rule c p (found .1 .1) in
-      let first : c ≡ code =
-      neither-less c code (λ less. none-before c p less (is .0)) (λ less. is .1 code place less rule) in
-      verdict-is (refused c p) (found .1 .1)
-      ∙ λ i. refusal (first i) (one-place c p code place first (is .0) rule i) used journal answers)
-      (passed-or-refused verdict)
+  unfolding run
+  refusal-given first = refuses run-speaks (λ (code place : ℕ). refusal code place used journal answers) outcome first
 
-  -- .. and only there.
+  -- Where no rule of the row holds, none is given.
+  pub none-refused : None (runRow file journal used limit answers) → run file journal used limit answers ≡ outcome
+  unfolding run
+  none-refused none = passes run-speaks (λ (code place : ℕ). refusal code place used journal answers) outcome none
+
+  -- One of the two is so.
+  pub given-or-not : None (runRow file journal used limit answers)
+      ⊎ ((code : ℕ) × ((place : ℕ) × First (runRow file journal used limit answers) code place))
+  given-or-not = given-or-none run-speaks
+
+  pub given-numbered : {code place : ℕ} → First (runRow file journal used limit answers) code place → 1 ≤ code
+  given-numbered first = first-numbered run-speaks first
+
+  -- A code in the report is the first of the row whose rule holds, ..
   pub refusal-only : 1 ≤ run file journal used limit answers .report .code
-      → Rule file journal used limit answers (run file journal used limit answers .report .code)
-      (run file journal used limit answers .report .place)
-      × ((c p : ℕ) → c < run file journal used limit answers .report .code → Rule file journal used limit answers c p → ⊥)
-  unfolding settled refusal success
-  refusal-only given =
-      ⊎-elim
-      (λ (h : verdict ≡ passed).
-      let zero-code = ap (λ (o : Outcome). o .report .code) (verdict-is passed h) in
-      absurd (omega arith))
+      → First (runRow file journal used limit answers) (run file journal used limit answers .report .code) (run file journal used limit answers .report .place)
+  unfolding refusal success
+  refusal-only told =
+      ⊎-elim (λ none. absurd (let e = ap (λ (o : Outcome). o .report .code) (none-refused none) in omega arith))
       (λ found.
-      let c = found .0 in
-      let p = found .1 .0 in
-      let is = refused-rule c p (found .1 .1) in
-      let code-is = ap (λ (o : Outcome). o .report .code) (verdict-is (refused c p) (found .1 .1)) in
-      let place-is = ap (λ (o : Outcome). o .report .place) (verdict-is (refused c p) (found .1 .1)) in (
-        subst₂ (Rule file journal used limit answers) (sym code-is) (sym place-is) (is .0),
-        λ d q less rule. is .1 d q (omega arith) rule,
-      ))
-      (passed-or-refused verdict)
+      subst (λ (o : Outcome). First (runRow file journal used limit answers) (o .report .code) (o .report .place))
+      (sym (refusal-given (found .1 .1))) (found .1 .1))
+      given-or-not
 
-  -- A run is not refused exactly where no code's rule says so.
-  pub accepted-exactly : (run file journal used limit answers .report .code ≡ 0) ↔ ((c p : ℕ) → Rule file journal used limit answers c p → ⊥)
-  unfolding settled refusal success
-  accepted-exactly = (
-    λ zero-code.
-        ⊎-elim (λ (h : verdict ≡ passed). passed-no-rule h)
-        (λ found.
-        let c = found .0 in
-        let p = found .1 .0 in
-        let is = refused-rule c p (found .1 .1) in
-        let code-is = ap (λ (o : Outcome). o .report .code) (verdict-is (refused c p) (found .1 .1)) in
-        let range = rule-range c p (is .0) in
-        absurd (let low = range .0 in omega arith))
-        (passed-or-refused verdict),
-    λ none.
-        ⊎-elim (λ (h : verdict ≡ passed). ap (λ (o : Outcome). o .report .code) (verdict-is passed h))
-        (λ found. absurd (none (found .0) (found .1 .0) (refused-rule (found .0) (found .1 .0) (found .1 .1) .0)))
-        (passed-or-refused verdict),
-  )
+  -- .. and there is none exactly where no rule of the row holds.
+  pub accepted-none : run file journal used limit answers .report .code ≡ 0 → None (runRow file journal used limit answers)
+  unfolding refusal
+  accepted-none zero-code =
+      ⊎-elim (λ none. none)
+      (λ found.
+      absurd
+      (let e = ap (λ (o : Outcome). o .report .code) (refusal-given (found .1 .1)) in let low = given-numbered (found .1 .1) in omega arith))
+      given-or-not
+
+  pub none-accepted : None (runRow file journal used limit answers) → run file journal used limit answers .report .code ≡ 0
+  unfolding success
+  none-accepted none = ap (λ (o : Outcome). o .report .code) (none-refused none)
+
+  -- What is so where no rule of the row holds.
+  pub record LetsPass : Type 0 where
+    pub accepted : fileVerdict file ≡ Passed
+    pub journal-long : recordBytes * length (listOf (entriesOf file)) ≤ length journal
+    pub used-inside : used ≤ length journal
+    pub answers-long : length (queriesOf (entriesOf file)) ≤ length answers
+    pub room : recordBytes * (length kept + length added) ≤ length journal
+
+  pub none-lets-pass : None (runRow file journal used limit answers) → LetsPass
+  unfolding fileVerdict tried code6 code7 code8 code9
+  none-lets-pass none =
+      let entries = entriesOf file in
+      let from9 = tried (code9 kept added journal ∷ []) in
+      let from8 = andThen (code8 (queriesOf entries) answers) from9 in
+      let from7 = andThen (code7 journal used) from8 in
+      let from6 = andThen (code6 (listOf entries) journal) from7 in
+      let all = andThen-passed (tried (fileCodes file)) from6 (sym (tried-append (fileCodes file) _) ∙ none-given run-speaks none) in
+      let behind6 = andThen-passed (code6 (listOf entries) journal) from7 (all .1) in
+      let behind7 = andThen-passed (code7 journal used) from8 (behind6 .1) in
+      let behind8 = andThen-passed (code8 (queriesOf entries) answers) from9 (behind7 .1) in
+      let last = andThen-passed (code9 kept added journal) Passed (behind8 .1) in
+      record {
+        accepted = all .0;
+        journal-long = not-less (length journal) (recordBytes * length (listOf entries)) 6 (behind6 .0);
+        used-inside = not-less (length journal) used 7 (behind7 .0);
+        answers-long = not-less (length answers) (length (queriesOf entries)) 8 (behind8 .0);
+        room = not-less (length journal) (recordBytes * (length kept + length added)) 9 (last .0);
+      }
+
+  pub lets-pass : run file journal used limit answers .report .code ≡ 0 → LetsPass
+  lets-pass zero-code = none-lets-pass (accepted-none zero-code)

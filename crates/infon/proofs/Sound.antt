@@ -1,7 +1,7 @@
 -- Soundness: every record of a row of good records is for a derivable formula.
 -- Assumes nothing.
 use Prim.Native.Nat.{ℕ, _<_}
-use mathlib.Core.Path.{_≡_, refl, sym, _∙_, ap, subst}
+use mathlib.Core.Path.{_≡_, refl, sym, subst}
 use mathlib.Core.Logic.{⊎-elim}
 use mathlib.Core.Bool.{true, false, _&&_, false≢true}
 use mathlib.Core.List.{List, [], _∷_, _++_, append-nil, append-assoc, reverse, List·Memᴰ, List·Memᴰ·not-nil, List·Memᴰ·append-cases, List·Memᴰ·eq-of-singleton}
@@ -11,7 +11,7 @@ use borrow.Author.Tests.{eq-eqb}
 use Rattle.infon.specs.declared.Way.{Way}
 use Rattle.infon.specs.declared.Way.the-variants.{Hypothesis, Given, Weaken, Left, Right, Both, Apply, Attach}
 use Rattle.infon.specs.declared.Record.{Record}
-use Rattle.infon.specs.Formula.{Formula, True, and, implies, isNamed, same}
+use Rattle.infon.specs.Formula.{Formula, True, and, implies, same}
 use Rattle.infon.specs.Listing.{Prefix, wrap}
 use Rattle.infon.specs.Calculus.{under, Derives, hypothesis, given, weaken, left, right, both, apply, attach}
 use Rattle.infon.specs.Rules.{Shape, truth, primitive, conjunction, implication, shapeOf, weakenings, isTruth, isLeft, isRight, areBoth, isConclusion, isCondition, numbered, gives}
@@ -19,7 +19,6 @@ use Rattle.infon.specs.Journal.{isRecorded, premisesIn, isGood}
 use Rattle.infon.proofs.Rows.{and-true, witness-someOf}
 use Rattle.infon.proofs.Same.{same-eq}
 use Rattle.infon.proofs.Prefixes.{listed-mem, wrap-under-reverse, weaker-reverse, shape-truth, shape-conjunction, shape-implication, weakenings-weaker}
-use Rattle.infon.proofs.Listed.{numbered-mem}
 use Rattle.infon.proofs.Least.{PremisesBelow}
 use Rattle.infon.proofs.Grown.{GoodRow, stop, more, good-parts, recorded-by}
 
@@ -83,9 +82,6 @@ module _ (hyps fs : List Formula) where
   inner : (w : Prefix) (x : Formula) → Derives hyps (under (reverse w) x) → Derives hyps (wrap w x)
   inner w x d = subst (Derives hyps) (sym (wrap-under-reverse w x)) d
 
-  inside-named : (w : Prefix) (x z : Formula) → z ≡ wrap w x → isNamed z ≡ true → isNamed (under (reverse w) x) ≡ true
-  inside-named w x z e named = ap isNamed (sym (e ∙ wrap-under-reverse w x)) ∙ named
-
   -- what a good record is
   pub record Good (done : List Record) (r : Record) : Type 0 where
     pub below : r .formula < length fs
@@ -129,14 +125,14 @@ module _ (hyps fs : List Formula) where
       (premise-below done p sound (both-in .0), premise-below done q sound (both-in .1))
   premises-below done (Attach p) sound h = premise-below done p sound h
 
-  way-derives : (done : List Record) (way : Way) (z : Formula) → Sound done → isNamed z ≡ true → premisesIn way done ≡ true
+  way-derives : (done : List Record) (way : Way) (z : Formula) → Sound done → premisesIn way done ≡ true
       → gives hyps fs way z ≡ true → Derives hyps z
   unfolding premisesIn gives
-  way-derives done Hypothesis z sound named prem h = hypothesis z (listed-mem z hyps h)
-  way-derives done Given z sound named prem h =
+  way-derives done Hypothesis z sound prem h = hypothesis z (listed-mem z hyps h)
+  way-derives done Given z sound prem h =
       let found = shape-truth z (truth-found (shapeOf z) h) in
-      subst (Derives hyps) (sym (found .1)) (inner (found .0) True (given (reverse (found .0)) (inside-named (found .0) True z (found .1) named)))
-  way-derives done (Weaken p) z sound named prem h =
+      subst (Derives hyps) (sym (found .1)) (inner (found .0) True (given (reverse (found .0))))
+  way-derives done (Weaken p) z sound prem h =
       let found = weakenings-weaker (numbered fs p) (listed-mem z (weakenings (numbered fs p)) h) in
       let v = found .0 in
       let w = found .1 .0 in
@@ -144,7 +140,7 @@ module _ (hyps fs : List Formula) where
       let from = subst (Derives hyps) (found .1 .1 .1 .1 .0) (premise-derived done p sound prem) in
       subst (Derives hyps) (sym (found .1 .1 .1 .1 .1))
       (inner v x (weaken (reverse v) (reverse w) x (weaker-reverse (found .1 .1 .1 .0)) (outer w x from)))
-  way-derives done (Left p) z sound named prem h =
+  way-derives done (Left p) z sound prem h =
       let shape = left-found z (shapeOf (numbered fs p)) h in
       let found = shape-conjunction (numbered fs p) (shape .1) in
       let w = found .0 in
@@ -152,7 +148,7 @@ module _ (hyps fs : List Formula) where
       let y = found .1 .1 .0 in
       let from = subst (Derives hyps) (found .1 .1 .1 .0) (premise-derived done p sound prem) in
       subst (Derives hyps) (sym (found .1 .1 .1 .1 .0)) (inner w x (left (reverse w) x y (outer w (and x y) from)))
-  way-derives done (Right p) z sound named prem h =
+  way-derives done (Right p) z sound prem h =
       let shape = right-found z (shapeOf (numbered fs p)) h in
       let found = shape-conjunction (numbered fs p) (shape .1) in
       let w = found .0 in
@@ -160,7 +156,7 @@ module _ (hyps fs : List Formula) where
       let y = found .1 .1 .0 in
       let from = subst (Derives hyps) (found .1 .1 .1 .0) (premise-derived done p sound prem) in
       subst (Derives hyps) (sym (found .1 .1 .1 .1 .1)) (inner w y (right (reverse w) x y (outer w (and x y) from)))
-  way-derives done (Both p q) z sound named prem h =
+  way-derives done (Both p q) z sound prem h =
       let premises = and-true (isRecorded p done) (isRecorded q done) prem in
       let found = shape-conjunction z (both-found (numbered fs p) (numbered fs q) (shapeOf z) h) in
       let w = found .0 in
@@ -169,7 +165,7 @@ module _ (hyps fs : List Formula) where
       let dx = subst (Derives hyps) (found .1 .1 .1 .1 .0) (premise-derived done p sound (premises .0)) in
       let dy = subst (Derives hyps) (found .1 .1 .1 .1 .1) (premise-derived done q sound (premises .1)) in
       subst (Derives hyps) (sym (found .1 .1 .1 .0)) (inner w (and x y) (both (reverse w) x y (outer w x dx) (outer w y dy)))
-  way-derives done (Apply p q) z sound named prem h =
+  way-derives done (Apply p q) z sound prem h =
       let premises = and-true (isRecorded p done) (isRecorded q done) prem in
       let found = shape-implication (numbered fs q) (applied-found (numbered fs p) z (shapeOf (numbered fs q)) h) in
       let w = found .0 in
@@ -178,27 +174,25 @@ module _ (hyps fs : List Formula) where
       let dx = subst (Derives hyps) (found .1 .1 .1 .1 .0) (premise-derived done p sound (premises .0)) in
       let di = subst (Derives hyps) (found .1 .1 .1 .0) (premise-derived done q sound (premises .1)) in
       subst (Derives hyps) (sym (found .1 .1 .1 .1 .1)) (inner w y (apply (reverse w) x y (outer w x dx) (outer w (implies x y) di)))
-  way-derives done (Attach p) z sound named prem h =
+  way-derives done (Attach p) z sound prem h =
       let shape = upper-found (numbered fs p) (shapeOf z) h in
       let found = shape-implication z (shape .1) in
       let w = found .0 in
       let x = found .1 .0 in
       let y = found .1 .1 .0 in
       let dy = subst (Derives hyps) (found .1 .1 .1 .1 .1) (premise-derived done p sound prem) in
-      subst (Derives hyps) (sym (found .1 .1 .1 .0)) (inner w (implies x y) (attach (reverse w) x y (inside-named w (implies x y) z (found .1 .1 .1 .0) named) (outer w y dy)))
+      subst (Derives hyps) (sym (found .1 .1 .1 .0)) (inner w (implies x y) (attach (reverse w) x y (outer w y dy)))
 
-module _ (hyps fs : List Formula) (named : (z : Formula) → List·Memᴰ z fs → isNamed z ≡ true) where
-  pub good-derives : (done : List Record) (r : Record) → Sound hyps fs done → isGood hyps fs done r ≡ true
+  pub good-derives : (done : List Record) (r : Record) → Sound done → isGood hyps fs done r ≡ true
       → Derives hyps (numbered fs (r .formula))
   good-derives done r sound h =
-      let good = good-is hyps fs done r h in
-      way-derives hyps fs done (r .way) (numbered fs (r .formula)) sound
-      (named (numbered fs (r .formula)) (numbered-mem fs (r .formula) (good .below))) (good .premises) (good .follows)
+      let good = good-is done r h in
+      way-derives done (r .way) (numbered fs (r .formula)) sound (good .premises) (good .follows)
 
-  pub sound-empty : Sound hyps fs []
+  pub sound-empty : Sound []
   sound-empty = record { listed = λ r m. absurd (List·Memᴰ·not-nil m); derived = λ r m. absurd (List·Memᴰ·not-nil m) }
 
-  pub sound-more : (done : List Record) (r : Record) → Sound hyps fs done → isGood hyps fs done r ≡ true → Sound hyps fs (done ++ (r ∷ []))
+  pub sound-more : (done : List Record) (r : Record) → Sound done → isGood hyps fs done r ≡ true → Sound (done ++ (r ∷ []))
   sound-more done r sound h =
       record {
         listed =
@@ -206,7 +200,7 @@ module _ (hyps fs : List Formula) (named : (z : Formula) → List·Memᴰ z fs �
             ⊎-elim
             (λ (i : List·Memᴰ s done). sound .listed s i)
             (λ (i : List·Memᴰ s (r ∷ [])).
-            subst (λ (t : Record). t .formula < length fs) (sym (List·Memᴰ·eq-of-singleton i)) (good-is hyps fs done r h .below))
+            subst (λ (t : Record). t .formula < length fs) (sym (List·Memᴰ·eq-of-singleton i)) (good-is done r h .below))
             (List·Memᴰ·append-cases done m);
         derived =
             λ s m.
@@ -218,7 +212,7 @@ module _ (hyps fs : List Formula) (named : (z : Formula) → List·Memᴰ z fs �
             (List·Memᴰ·append-cases done m);
       }
 
-  pub sound-row : (done rest : List Record) → Sound hyps fs done → GoodRow hyps fs done rest → Sound hyps fs (done ++ rest)
-  sound-row done rest sound (stop d) = subst (Sound hyps fs) (sym (append-nil done)) sound
+  pub sound-row : (done rest : List Record) → Sound done → GoodRow hyps fs done rest → Sound (done ++ rest)
+  sound-row done rest sound (stop d) = subst Sound (sym (append-nil done)) sound
   sound-row done rest sound (more d r later h row) =
-      subst (Sound hyps fs) (append-assoc done (r ∷ []) later) (sound-row (done ++ (r ∷ [])) later (sound-more done r sound h) row)
+      subst Sound (append-assoc done (r ∷ []) later) (sound-row (done ++ (r ∷ [])) later (sound-more done r sound h) row)

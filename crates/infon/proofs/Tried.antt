@@ -1,60 +1,67 @@
--- "Tried in this order; the first that applies is given, and none otherwise": what a search through a row, and a row of verdicts,
--- finds first.
+-- "Tried in this order; the first that applies is given, and none otherwise": what a search through a row finds first, and what a row
+-- of codes gives.
 -- Assumes nothing.
-use Prim.Native.Nat.{ℕ, zero, suc, _+_, _≤_, _<_}
-use native.Mathlib.Nat.{le-trans, eq-or-lt-of-le}
+use Prim.Native.Nat.{ℕ, _+_, _≤_, _<_}
+use native.Mathlib.Nat.{le-trans}
 use native.Mathlib.Omega.{arith}
-use mathlib.Core.Path.{_≡_, refl, sym, _∙_, ap, subst, subst₂}
+use mathlib.Core.Path.{_≡_, refl, sym, _∙_, ap, subst}
 use mathlib.Core.Logic.{_⊎_, inl, inr, ⊎-elim}
 use mathlib.Core.Bool.{Bool, true, false, not}
 use mathlib.Core.List.{List, [], _∷_, _++_}
 use lib.Dec.{ltb}
 use borrow.Author.Tests.{ltb-true, ltb-false, lt-ltb, le-ltb}
 use Rattle.infon.specs.Bytes.{every}
-use Rattle.infon.specs.Policy.{Verdict, passed, refused, andThen, when}
+use Rattle.infon.specs.declared.Verdict.{Verdict}
+use Rattle.infon.specs.declared.Verdict.the-variants.{Passed, Refused}
+use Rattle.infon.specs.Codes.{andThen, when, tried, settled, Code, First, at-front, further, None, empty, not-one}
 use Rattle.infon.proofs.Rows.{true-and, and-true, decided}
-use Rattle.infon.proofs.Cuts.{andThen-passed}
 
 -- ---- What a verdict does
 
-pub when-true : (b : Bool) (code place : ℕ) → b ≡ true → when b code place ≡ refused code place
+pub when-true : (b : Bool) (code place : ℕ) → b ≡ true → when b code place ≡ Refused code place
 unfolding when
 when-true b code place h = rw h
 
-pub when-false : (b : Bool) (code place : ℕ) → b ≡ false → when b code place ≡ passed
+pub when-false : (b : Bool) (code place : ℕ) → b ≡ false → when b code place ≡ Passed
 unfolding when
 when-false b code place h = rw h
 
-pub passed-refused : {code place : ℕ} → passed ≡ refused code place → ⊥
+pub passed-refused : {code place : ℕ} → Passed ≡ Refused code place → ⊥
 passed-refused e = let z : _≡_ {A = ℕ} 0 1 = cc in omega arith
 
-pub passed-or-refused : (v : Verdict) → (v ≡ passed) ⊎ ((code : ℕ) × ((place : ℕ) × (v ≡ refused code place)))
-passed-or-refused passed = inl refl
-passed-or-refused (refused code place) = inr (code, (place, refl))
-
-pub refused-same : {c p d q : ℕ} → refused c p ≡ refused d q → (c ≡ d) × (p ≡ q)
+refused-same : {c p d q : ℕ} → Refused c p ≡ Refused d q → (c ≡ d) × (p ≡ q)
 refused-same e = (cc, cc)
 
-pub pass-on : {v : Verdict} → v ≡ passed → (later : Verdict) → andThen v later ≡ later
+pub pass-on : {v : Verdict} → v ≡ Passed → (later : Verdict) → andThen v later ≡ later
 unfolding andThen
 pass-on h later = rw h
 
-pub stop-at : {v : Verdict} {code place : ℕ} → v ≡ refused code place → (later : Verdict) → andThen v later ≡ refused code place
+pub stop-at : {v : Verdict} {code place : ℕ} → v ≡ Refused code place → (later : Verdict) → andThen v later ≡ Refused code place
 unfolding andThen
 stop-at h later = rw h
 
+pub andThen-passed : (v w : Verdict) → andThen v w ≡ Passed → (v ≡ Passed) × (w ≡ Passed)
+unfolding andThen
+andThen-passed Passed w e = (refl, e)
+andThen-passed (Refused code place) w e = (e, let z : _≡_ {A = ℕ} 0 1 = cc in absurd (omega arith))
+
+pub when-passed : (b : Bool) (code place : ℕ) → when b code place ≡ Passed → b ≡ false
+unfolding when
+when-passed true code place e = cc
+when-passed false code place e = refl
+
 pub andThen-assoc : (u v w : Verdict) → andThen (andThen u v) w ≡ andThen u (andThen v w)
 unfolding andThen
-andThen-assoc passed v w = refl
-andThen-assoc (refused code place) v w = refl
+andThen-assoc Passed v w = refl
+andThen-assoc (Refused code place) v w = refl
 
-pub andThen-end : (v : Verdict) → andThen v passed ≡ v
+pub andThen-end : (v : Verdict) → andThen v Passed ≡ v
 unfolding andThen
-andThen-end passed = refl
-andThen-end (refused code place) = refl
+andThen-end Passed = refl
+andThen-end (Refused code place) = refl
 
 -- a bad element in front ends the search, any other is passed over
-stops : (b : Bool) (code place : ℕ) (later : Verdict) → b ≡ true → andThen (when b code place) later ≡ refused code place
+stops : (b : Bool) (code place : ℕ) (later : Verdict) → b ≡ true → andThen (when b code place) later ≡ Refused code place
 unfolding andThen when
 stops b code place later h = rw h
 
@@ -66,7 +73,7 @@ goes-on b code place later h = rw h
 
 module _ {E : Type 0} (good : E → Bool) (code : ℕ) (place : E → ℕ) where
   unfoldable pub scanned : List E → Verdict
-  scanned [] = passed
+  scanned [] = Passed
   scanned (e ∷ rest) = andThen (when (not (good e)) code (place e)) (scanned rest)
 
   pub record FirstBad (xs : List E) (at : ℕ) : Type 0 where
@@ -79,7 +86,7 @@ module _ {E : Type 0} (good : E → Bool) (code : ℕ) (place : E → ℕ) where
     pub here : at ≡ place bad
 
   pub scanned-first : (before : List E) (e : E) (behind : List E) → every good before ≡ true → good e ≡ false
-      → scanned (before ++ (e ∷ behind)) ≡ refused code (place e)
+      → scanned (before ++ (e ∷ behind)) ≡ Refused code (place e)
   unfolding scanned every
   scanned-first [] e behind calm bad = stops (not (good e)) code (place e) (scanned behind) (ap not bad)
   scanned-first (x ∷ before) e behind calm bad =
@@ -87,7 +94,7 @@ module _ {E : Type 0} (good : E → Bool) (code : ℕ) (place : E → ℕ) where
       goes-on (not (good x)) code (place x) (scanned (before ++ (e ∷ behind))) (ap not (parts .0))
       ∙ scanned-first before e behind (parts .1) bad
 
-  pub first-scanned : (xs : List E) → (scanned xs ≡ passed) ⊎ ((at : ℕ) × ((scanned xs ≡ refused code at) × FirstBad xs at))
+  pub first-scanned : (xs : List E) → (scanned xs ≡ Passed) ⊎ ((at : ℕ) × ((scanned xs ≡ Refused code at) × FirstBad xs at))
   unfolding scanned every
   first-scanned [] = inl refl
   first-scanned (x ∷ xs) =
@@ -136,7 +143,7 @@ module _ {S E : Type 0} (step : S → E → S) (size : S → ℕ) (grows : (s : 
   gone-grows s (e ∷ rest) = le-trans (grows s e) (gone-grows (step s e) rest)
 
   unfoldable pub counted : S → List E → Verdict
-  counted s [] = passed
+  counted s [] = Passed
   counted s (e ∷ rest) = andThen (when (ltb most (size (step s e))) code (place e)) (counted (step s e) rest)
 
   pub record FirstOver (s : S) (xs : List E) (at : ℕ) : Type 0 where
@@ -149,7 +156,7 @@ module _ {S E : Type 0} (step : S → E → S) (size : S → ℕ) (grows : (s : 
     pub here : at ≡ place last
 
   pub counted-over : (s : S) (before : List E) (e : E) (behind : List E) → size (gone s before) ≤ most
-      → most < size (step (gone s before) e) → counted s (before ++ (e ∷ behind)) ≡ refused code (place e)
+      → most < size (step (gone s before) e) → counted s (before ++ (e ∷ behind)) ≡ Refused code (place e)
   unfolding counted gone
   counted-over s [] e behind within over =
       stops (ltb most (size (step s e))) code (place e) (counted (step s e) behind) (lt-ltb most (size (step s e)) over)
@@ -159,7 +166,7 @@ module _ {S E : Type 0} (step : S → E → S) (size : S → ℕ) (grows : (s : 
       ∙ counted-over (step s x) before e behind within over
 
   pub over-counted : (s : S) (xs : List E) → size s ≤ most
-      → (counted s xs ≡ passed) ⊎ ((at : ℕ) × ((counted s xs ≡ refused code at) × FirstOver s xs at))
+      → (counted s xs ≡ Passed) ⊎ ((at : ℕ) × ((counted s xs ≡ Refused code at) × FirstOver s xs at))
   unfolding counted gone
   over-counted s [] within = inl refl
   over-counted s (x ∷ xs) within =
@@ -203,51 +210,83 @@ module _ {S E : Type 0} (step : S → E → S) (size : S → ℕ) (grows : (s : 
       (over-counted (step s x) xs (ltb-false most (size (step s x)) fits)))
       (decided (ltb most (size (step s x))))
 
--- ---- The first of several verdicts
+-- ---- What a row of codes gives
 
-module _ (each : ℕ → Verdict) (Given : ℕ → ℕ → Type 0) (only : (code place : ℕ) → Given code place → each code ≡ refused code place)
-    (either : (code : ℕ) → (each code ≡ passed) ⊎ ((place : ℕ) × ((each code ≡ refused code place) × Given code place))) where
-  unfoldable pub firstFrom : ℕ → ℕ → Verdict
-  firstFrom code zero = passed
-  firstFrom code (suc k) = andThen (each code) (firstFrom (suc code) k)
+-- a row tried in two parts, and in one of them alone
+pub tried-append : (vs ws : List Verdict) → tried (vs ++ ws) ≡ andThen (tried vs) (tried ws)
+unfolding tried andThen
+tried-append [] ws = refl
+tried-append (v ∷ vs) ws = ap (andThen v) (tried-append vs ws) ∙ sym (andThen-assoc v (tried vs) (tried ws))
 
-  passed-none : (code place : ℕ) → each code ≡ passed → Given code place → ⊥
-  passed-none code place pass given = passed-refused (sym pass ∙ only code place given)
+-- A code's verdict says whether its rule holds, and where.
+pub record Says (c : Code) (v : Verdict) : Type 1 where
+  pub given : (place : ℕ) → c .rule place → v ≡ Refused (c .number) place
+  pub either : (v ≡ Passed) ⊎ ((place : ℕ) × ((v ≡ Refused (c .number) place) × c .rule place))
 
-  pub none-given : (code k : ℕ) → firstFrom code k ≡ passed → (c p : ℕ) → code ≤ c → c < code + k → Given c p → ⊥
-  unfolding firstFrom
-  none-given code zero h c p low high given = omega arith
-  none-given code (suc k) h c p low high given =
-      let parts = andThen-passed (each code) (firstFrom (suc code) k) h in
-      ⊎-elim
-      (λ (e : code ≡ c). passed-none code p (parts .0) (subst (λ (d : ℕ). Given d p) (sym e) given))
-      (λ (l : code < c). none-given (suc code) k (parts .1) c p l (omega arith) given)
-      (eq-or-lt-of-le low)
+-- the verdicts of a row of codes, none of which has the number 0
+pub data Speaks : List Code → List Verdict → Type 1 where
+  silent : Speaks [] []
+  speaks : (c : Code) (v : Verdict) (row : List Code) (vs : List Verdict) → Says c v → 1 ≤ c .number → Speaks row vs → Speaks (c ∷ row) (v ∷ vs)
 
-  pub first-given : (code k c p : ℕ) → firstFrom code k ≡ refused c p
-      → (code ≤ c) × (Given c p × ((d q : ℕ) → code ≤ d → d < c → Given d q → ⊥))
-  unfolding firstFrom
-  first-given code zero c p h = absurd (passed-refused h)
-  first-given code (suc k) c p h =
-      ⊎-elim
-      (λ (pass : each code ≡ passed).
-      let later = first-given (suc code) k c p (sym (pass-on pass (firstFrom (suc code) k)) ∙ h) in (
-        let low = later .0 in omega arith,
-        (
-          later .1 .0,
-          λ d q low high given.
-              ⊎-elim
-              (λ (e : code ≡ d). passed-none code q pass (subst (λ (n : ℕ). Given n q) (sym e) given))
-              (λ (l : code < d). later .1 .1 d q l high given)
-              (eq-or-lt-of-le low),
-        ),
-      ))
-      (λ found.
-      let same = refused-same (sym (stop-at (found .1 .0) (firstFrom (suc code) k)) ∙ h) in (
-        let e = same .0 in omega arith,
-        (
-          subst₂ Given (same .0) (same .1) (found .1 .1),
-          λ d q low high given. let e = same .0 in absurd (omega arith),
-        ),
-      ))
-      (either code)
+pub speaks-append : {row more : List Code} {vs ws : List Verdict} → Speaks row vs → Speaks more ws → Speaks (row ++ more) (vs ++ ws)
+speaks-append silent second = second
+speaks-append (speaks c v row vs says number first) second = speaks c v _ _ says number (speaks-append first second)
+
+passed-no-rule : {c : Code} {v : Verdict} → Says c v → v ≡ Passed → (p : ℕ) → c .rule p → ⊥
+passed-no-rule says pass p rule = passed-refused (sym pass ∙ says .given p rule)
+
+no-rule-passed : {c : Code} {v : Verdict} → Says c v → ((p : ℕ) → c .rule p → ⊥) → v ≡ Passed
+no-rule-passed says off = ⊎-elim (λ pass. pass) (λ found. absurd (off (found .0) (found .1 .1))) (says .either)
+
+-- The code given is the first whose rule holds, ..
+pub first-given : {row : List Code} {vs : List Verdict} {code place : ℕ} → Speaks row vs → First row code place → tried vs ≡ Refused code place
+unfolding tried
+first-given (speaks c v row vs says number rest) (at-front _ _ place rule) = stop-at (says .given place rule) (tried vs)
+first-given (speaks c v row vs says number rest) (further _ _ code place off first) =
+    pass-on (no-rule-passed says off) (tried vs) ∙ first-given rest first
+
+-- .. and none is given where none holds;
+pub none-given : {row : List Code} {vs : List Verdict} → Speaks row vs → None row → tried vs ≡ Passed
+unfolding tried
+none-given silent empty = refl
+none-given (speaks c v row vs says number rest) (not-one _ _ off others) = pass-on (no-rule-passed says off) (tried vs) ∙ none-given rest others
+
+-- .. one of the two is so, ..
+pub given-or-none : {row : List Code} {vs : List Verdict} → Speaks row vs → None row ⊎ ((code : ℕ) × ((place : ℕ) × First row code place))
+given-or-none silent = inl empty
+given-or-none (speaks c v row vs says number rest) =
+    ⊎-elim
+    (λ (pass : v ≡ Passed).
+    ⊎-elim (λ others. inl (not-one c row (passed-no-rule says pass) others))
+    (λ found. inr (found .0, (found .1 .0, further c row (found .0) (found .1 .0) (passed-no-rule says pass) (found .1 .1))))
+    (given-or-none rest))
+    (λ found. inr (c .number, (found .0, at-front c row (found .0) (found .1 .1))))
+    (says .either)
+
+-- .. so that a code that is given is the first whose rule holds, and none is given only where none holds;
+pub given-first : {row : List Code} {vs : List Verdict} {code place : ℕ} → Speaks row vs → tried vs ≡ Refused code place → First row code place
+given-first {row} {vs} {code} {place} heard told =
+    ⊎-elim (λ none. absurd (passed-refused (sym (none-given heard none) ∙ told)))
+    (λ found.
+    let same = refused-same (sym told ∙ first-given heard (found .1 .1)) in
+    subst (λ (p : ℕ). First row code p) (sym (same .1)) (subst (λ (c : ℕ). First row c (found .1 .0)) (sym (same .0)) (found .1 .1)))
+    (given-or-none heard)
+
+pub given-none : {row : List Code} {vs : List Verdict} → Speaks row vs → tried vs ≡ Passed → None row
+given-none heard told =
+    ⊎-elim (λ none. none) (λ found. absurd (passed-refused (sym told ∙ first-given heard (found .1 .1)))) (given-or-none heard)
+
+-- .. and no code is 0.
+pub first-numbered : {row : List Code} {vs : List Verdict} {code place : ℕ} → Speaks row vs → First row code place → 1 ≤ code
+first-numbered (speaks c v row vs says number rest) (at-front _ _ place rule) = number
+first-numbered (speaks c v row vs says number rest) (further _ _ code place off first) = first-numbered rest first
+
+-- What a call leaves that tries a row: a refusal where a code is given, its own outcome where none is.
+module _ {A : Type 0} {row : List Code} {vs : List Verdict} (heard : Speaks row vs) (refusal : ℕ → ℕ → A) (outcome : A) where
+  pub refuses : {code place : ℕ} → First row code place → settled (tried vs) refusal outcome ≡ refusal code place
+  unfolding settled
+  refuses first = rw (first-given heard first)
+
+  pub passes : None row → settled (tried vs) refusal outcome ≡ outcome
+  unfolding settled
+  passes others = rw (none-given heard others)

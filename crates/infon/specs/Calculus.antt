@@ -1,10 +1,8 @@
 -- Document 004, section 4: the Hilbert-type calculus of primal infon logic, over all formulas of any depth, with the rules
 -- of 01's table "Eight ways to a record" in its order.
 use Prim.Native.Nat.{ℕ}
-use mathlib.Core.Path.{_≡_}
-use mathlib.Core.Bool.{true}
-use mathlib.Core.List.{List, [], _∷_, List·Memᴰ}
-use Rattle.infon.specs.Formula.{said, put, Quotation, Formula, True, and, implies, quoted, isNamed}
+use mathlib.Core.List.{List, [], _∷_, _++_, List·Memᴰ}
+use Rattle.infon.specs.Formula.{said, put, Quotation, Formula, True, and, implies, quoted}
 
 -- "pref is any row of quotations, also none": pref x, the outermost quotation first
 unfoldable pub under : List Quotation → Formula → Formula
@@ -25,11 +23,10 @@ pub data Weaker : List Quotation → List Quotation → Type 0 where
   lowered : {weak strong : List Quotation} (p : List ℕ) → Weaker weak strong → Weaker (putBy p ∷ weak) (saidBy p ∷ strong)
 
 -- Derives hyps x: some derivation reaches x from the hypotheses. A derivation is a chain in the paper; here it is the tree of
--- its steps, and the constructors are rules 1 to 8. Rules 2 and 8 bring in what no premise has: there the names are asked to be
--- names of the language, so that a derivation from hypotheses of the language stays in the language (the law `derived-named`).
+-- its steps, and the constructors are rules 1 to 8. Its formulas are of any kind, also with names that no file can spell.
 pub data Derives (hyps : List Formula) : Formula → Type 0 where
   hypothesis : (x : Formula) → List·Memᴰ x hyps → Derives hyps x
-  given : (pref : List Quotation) → isNamed (under pref True) ≡ true → Derives hyps (under pref True)
+  given : (pref : List Quotation) → Derives hyps (under pref True)
   weaken : (weak strong : List Quotation) (x : Formula) → Weaker weak strong → Derives hyps (under strong x)
       → Derives hyps (under weak x)
   left : (pref : List Quotation) (x y : Formula) → Derives hyps (under pref (and x y)) → Derives hyps (under pref x)
@@ -38,5 +35,15 @@ pub data Derives (hyps : List Formula) : Formula → Type 0 where
       → Derives hyps (under pref (and x y))
   apply : (pref : List Quotation) (x y : Formula) → Derives hyps (under pref x) → Derives hyps (under pref (implies x y))
       → Derives hyps (under pref y)
-  attach : (pref : List Quotation) (x y : Formula) → isNamed (under pref (implies x y)) ≡ true → Derives hyps (under pref y)
-      → Derives hyps (under pref (implies x y))
+  attach : (pref : List Quotation) (x y : Formula) → Derives hyps (under pref y) → Derives hyps (under pref (implies x y))
+
+-- the formulas that a derivation passes through; the one that it reaches comes first
+unfoldable pub through : {hyps : List Formula} {z : Formula} → Derives hyps z → List Formula
+through (hypothesis x m) = x ∷ []
+through (given pref) = under pref True ∷ []
+through (weaken weak strong x le d) = under weak x ∷ through d
+through (left pref x y d) = under pref x ∷ through d
+through (right pref x y d) = under pref y ∷ through d
+through (both pref x y d e) = under pref (and x y) ∷ (through d ++ through e)
+through (apply pref x y d e) = under pref y ∷ (through d ++ through e)
+through (attach pref x y d) = under pref (implies x y) ∷ through d

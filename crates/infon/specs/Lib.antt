@@ -1,6 +1,7 @@
 -- The paper as definitions, in its order. Each file says which part it renders.
 pub mod Bytes
 pub mod Formula
+pub mod Codes
 pub mod Policy
 pub mod Listing
 pub mod Calculus
@@ -8,3 +9,4 @@ pub mod Local
 pub mod Rules
 pub mod Journal
 pub mod Run
+pub mod Board

@@ -6,7 +6,10 @@ use lib.ListN.{length}
 use lib.Dec.{ltb}
 use Rattle.infon.specs.Bytes.{someOf}
 use Rattle.infon.specs.Formula.{Told, said, put, Quotation, Formula, True, name, and, implies, quoted, same}
-use Rattle.infon.specs.Policy.{Entry, formulaIn, Verdict, passed, when, andThen}
+use Rattle.infon.specs.declared.Verdict.{Verdict}
+use Rattle.infon.specs.declared.Verdict.the-variants.{Passed}
+use Rattle.infon.specs.Codes.{when, andThen}
+use Rattle.infon.specs.Policy.{Entry, formulaIn}
 
 -- A prefix, "the row of quotations above" a base. It is kept from the innermost place to the outermost, as a walk down into a
 -- formula meets them: each quotation that is passed goes in front. Document 01 writes it the other way round, which
@@ -70,7 +73,7 @@ unfoldable pub mostListed : ℕ
 mostListed = 4096
 
 unfoldable pub code5From : List Formula → List Entry → Verdict
-code5From fs [] = passed
+code5From fs [] = Passed
 code5From fs (e ∷ rest) =
     let now = enlist fs (weakenedBases [] (formulaIn (e .sentence))) in
     andThen (when (ltb mostListed (length now)) 5 (e .start)) (code5From now rest)

@@ -5,8 +5,11 @@ use mathlib.Core.Option.{Option, none, some}
 use mathlib.Core.List.{List, [], _∷_}
 use lib.ListN.{length}
 use lib.Dec.{ltb, eqb}
+use Rattle.infon.specs.declared.Verdict.{Verdict}
+use Rattle.infon.specs.declared.Verdict.the-variants.{Passed}
 use Rattle.infon.specs.Bytes.{bytes, lineFeed, alike}
 use Rattle.infon.specs.Formula.{Formula, onto, formulaOf, nodes, depth}
+use Rattle.infon.specs.Codes.{when, andThen}
 
 -- "ASCII, zero or more lines, each ended by one line feed (byte 10)": the file cut behind each line feed. A rest without a
 -- line feed is a line too, and not well formed.
@@ -97,19 +100,6 @@ unfoldable pub queriesOf : List Entry → List Formula
 queriesOf [] = []
 queriesOf (e ∷ rest) = elim (e .sentence) [ hypothesis x ↦ queriesOf rest | query x ↦ x ∷ queriesOf rest ]
 
--- A code with its place, or none. "Tried in this order; the first that applies is given, and none otherwise."
-pub data Verdict : Type 0 where
-  passed : Verdict
-  refused : ℕ → ℕ → Verdict
-
-unfoldable pub andThen : Verdict → Verdict → Verdict
-andThen passed later = later
-andThen (refused code place) later = refused code place
-
-unfoldable pub when : Bool → ℕ → ℕ → Verdict
-when true code place = refused code place
-when false code place = passed
-
 -- 1: "the file is over 32,768 bytes", place 0
 unfoldable pub mostBytes : ℕ
 mostBytes = 32768
@@ -119,7 +109,7 @@ code1 file = when (ltb mostBytes (length file)) 1 0
 
 -- 2: "a line is not well formed", "start of the first such line"
 unfoldable pub code2From : List Line → Verdict
-code2From [] = passed
+code2From [] = Passed
 code2From (line ∷ rest) = andThen (when (not (isWellFormed line)) 2 (line .start)) (code2From rest)
 
 unfoldable pub code2 : List ℕ → Verdict
@@ -130,7 +120,7 @@ unfoldable pub mostNodes : ℕ
 mostNodes = 1024
 
 unfoldable pub code3From : ℕ → List Entry → Verdict
-code3From count [] = passed
+code3From count [] = Passed
 code3From count (e ∷ rest) =
     let now = count + nodes (formulaIn (e .sentence)) in
     andThen (when (ltb mostNodes now) 3 (e .start)) (code3From now rest)
@@ -143,5 +133,5 @@ unfoldable pub mostDepth : ℕ
 mostDepth = 4
 
 unfoldable pub code4 : List Entry → Verdict
-code4 [] = passed
+code4 [] = Passed
 code4 (e ∷ rest) = andThen (when (ltb mostDepth (depth (formulaIn (e .sentence)))) 4 (e .start)) (code4 rest)

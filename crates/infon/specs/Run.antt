@@ -11,7 +11,9 @@ use Rattle.infon.specs.declared.Answer.the-variants.{No, Yes, Open}
 use Rattle.infon.specs.declared.Report.{Report}
 use Rattle.infon.specs.Bytes.{someOf}
 use Rattle.infon.specs.Formula.{Formula, same}
-use Rattle.infon.specs.Policy.{entriesOf, hypothesesOf, queriesOf, Verdict, passed, refused, andThen, when, code1, code2, code3, code4}
+use Rattle.infon.specs.declared.Verdict.{Verdict}
+use Rattle.infon.specs.Codes.{when, tried, settled}
+use Rattle.infon.specs.Policy.{entriesOf, hypothesesOf, queriesOf, code1, code2, code3, code4}
 use Rattle.infon.specs.Listing.{listOf, code5}
 use Rattle.infon.specs.Calculus.{Derives}
 use Rattle.infon.specs.Rules.{numbered}
@@ -36,11 +38,15 @@ isOnRecord fs done x = someOf (λ (r : Record). same x (numbered fs (r .formula)
 unfoldable pub answersOf : List Formula → List Formula → List Record → List Formula → List Answer
 answersOf hyps fs done queries = map (λ (x : Formula). answerOf (isOnRecord fs done x) (isFinished hyps fs done)) queries
 
--- "A file is accepted when none of the codes about the file alone, here 1 to 5, applies."
-unfoldable pub fileVerdict : List ℕ → Verdict
-fileVerdict file =
+-- The codes about the file alone, in the order in which they are tried. "A file is accepted when none of the codes about the file
+-- alone, here 1 to 5, applies."
+unfoldable pub fileCodes : List ℕ → List Verdict
+fileCodes file =
     let entries = entriesOf file in
-    andThen (code1 file) (andThen (code2 file) (andThen (code3 entries) (andThen (code4 entries) (code5 entries))))
+    code1 file ∷ (code2 file ∷ (code3 entries ∷ (code4 entries ∷ (code5 entries ∷ []))))
+
+unfoldable pub fileVerdict : List ℕ → Verdict
+fileVerdict file = tried (fileCodes file)
 
 -- 6: "journal buffer shorter than 9 × L"
 unfoldable pub code6 : List Formula → List ℕ → Verdict
@@ -108,10 +114,6 @@ success hyps fs queries kept added journal answers =
       answers = written answers 0 (map answerByte (answersOf hyps fs (kept ++ added) queries));
     }
 
-unfoldable pub settled : Verdict → ℕ → List ℕ → List ℕ → Outcome → Outcome
-settled passed used journal answers outcome = outcome
-settled (refused code place) used journal answers outcome = refusal code place used journal answers
-
 -- "A run takes the file, the journal buffer, its used length, a limit n and the answer buffer."
 unfoldable pub run : List ℕ → List ℕ → ℕ → ℕ → List ℕ → Outcome
 run file journal used limit answers =
@@ -122,6 +124,6 @@ run file journal used limit answers =
     let kept = keptOf hyps fs journal used in
     let added = grown hyps fs kept limit in
     settled
-    (andThen (fileVerdict file)
-    (andThen (code6 fs journal) (andThen (code7 journal used) (andThen (code8 queries answers) (code9 kept added journal)))))
-    used journal answers (success hyps fs queries kept added journal answers)
+    (tried (fileCodes file ++ (code6 fs journal ∷ (code7 journal used ∷ (code8 queries answers ∷ (code9 kept added journal ∷ []))))))
+    (λ (code place : ℕ). refusal code place used journal answers)
+    (success hyps fs queries kept added journal answers)

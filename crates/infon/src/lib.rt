@@ -1,5 +1,5 @@
-// The paper: its definitions stand in specs/, what is proved of them in proofs/. Here are only the types of which both the
-// definitions and the code speak.
+// The paper as definitions and theorems: the first stand in specs/, the second in proofs/. Here are only the types of which both
+// the definitions and the code speak.
 
 // The eight ways to a record, rules 1 to 8 in the table's order: each with the numbers of the premises that it has.
 pub enum Way {
@@ -19,6 +19,9 @@ pub struct Record {
     pub way: Way,
 }
 
+// How many bytes a record has in the journal.
+pub const RECORD_BYTES: usize = 9;
+
 // The answer to a query.
 pub enum Answer {
     No,
@@ -34,4 +37,10 @@ pub struct Report {
     pub added: usize,
     pub finished: bool,
     pub used: usize,
+}
+
+// What the codes that a function tries say: none applies, or one with its place.
+pub enum Verdict {
+    Passed,
+    Refused { code: usize, place: usize },
 }

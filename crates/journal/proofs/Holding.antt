@@ -19,20 +19,20 @@ use Rattle.infon.specs.Journal.{isRecorded, isGood, decoded, wholeRecords, reco
 use Rattle.infon.proofs.Rows.{decided}
 use Rattle.infon.proofs.Grown.{GoodRow, stop, more, kept-good}
 use Rattle.infon.proofs.Missing.{recorded-now, recorded-other}
-use Rattle.table.specs.Table.{flag, tableRows, Tabled}
-use Rattle.table.specs.Tests.{Held}
-use Rattle.table.proofs.Given.{good-below, good-in}
+use Rattle.formulas.specs.Table.{tableRows, flag, Tabled}
+use Rattle.formulas.specs.Tests.{Held}
+use Rattle.formulas.proofs.Given.{good-below, good-in}
 use Rattle.journal.specs.Kept.{markAll, onlyGoodIn, keptBy, keptIn, Keeps}
 
 module _ (hyps fs : List Formula) (t : List ℕ) (n : ℕ) where
   -- the marks with that of one more good record
   pub held-more : (done : List Record) (marks : List ℕ) (r : Record) → Held hyps fs done t n marks → isGood hyps fs done r ≡ true
       → Held hyps fs (done ++ (r ∷ [])) t n (set marks (r .formula) 1)
-  unfolding flag tableRows
+  unfolding flag
   held-more done marks r held good =
       let low : r .formula < n = good-below t n marks r (sym (good-in hyps fs done t n marks r held) ∙ good) in
-      let long : 4096 ≤ length marks = held .marks-are .long in
-      let few : length fs ≤ 4096 = held .table .few in
+      let long : tableRows ≤ length marks = held .marks-are .long in
+      let few : length fs ≤ tableRows = held .table .few in
       let count = held .count in
       record {
         count = held .count;
@@ -68,9 +68,9 @@ module _ (hyps fs : List Formula) (t : List ℕ) (n : ℕ) where
       rw append-assoc at (held-row (done ++ (r ∷ [])) rest (set marks (r .formula) 1) later (held-more done marks r held good))
 
   -- no mark, no record
-  pub held-none : (marks : List ℕ) → Tabled hyps fs t → length fs ≡ n → 4096 ≤ length marks → ((i : ℕ) → i < n → getD marks i 0 ≡ 0)
+  pub held-none : (marks : List ℕ) → Tabled hyps fs t → length fs ≡ n → tableRows ≤ length marks → ((i : ℕ) → i < n → getD marks i 0 ≡ 0)
       → Held hyps fs [] t n marks
-  unfolding flag isRecorded someOf tableRows
+  unfolding flag isRecorded someOf
   held-none marks tabled count long zeros =
       record {
         count = count;
@@ -79,10 +79,9 @@ module _ (hyps fs : List Formula) (t : List ℕ) (n : ℕ) where
         below = λ i h. absurd (false≢true h);
       }
 
-  pub held-zeros : (m : ℕ) → Tabled hyps fs t → length fs ≡ n → 4096 ≤ m → Held hyps fs [] t n (replicate m 0)
-  unfolding tableRows
+  pub held-zeros : (m : ℕ) → Tabled hyps fs t → length fs ≡ n → tableRows ≤ m → Held hyps fs [] t n (replicate m 0)
   held-zeros m tabled count long =
-      let few : length fs ≤ 4096 = tabled .few in
+      let few : length fs ≤ tableRows = tabled .few in
       held-none (replicate m 0) tabled count (rw length-replicate long) (λ i h. getD-replicate m i 0 0 (omega arith))
 
   pub kept-after : (rows : List (List ℕ)) (done : List Record) (marks : List ℕ) → Held hyps fs done t n marks

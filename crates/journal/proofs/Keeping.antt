@@ -4,21 +4,24 @@ use Prim.Native.Nat.{ℕ, suc, _+_, _*_, _-_, _/_, _≤_, _<_}
 use native.Mathlib.Nat.{zero-add}
 use native.Mathlib.Omega.{arith}
 use mathlib.Core.Path.{_≡_, refl, sym, _∙_, ap}
-use mathlib.Core.Bool.{Bool, true, false, not}
+use mathlib.Core.Logic.{⊎-elim}
+use mathlib.Core.Bool.{Bool, true, false, not, cond, false≢true}
 use mathlib.Core.Option.{Option, none, some}
 use mathlib.Core.List.{List, [], _∷_}
 use lib.ListN.{length, take, drop, set, length-set}
 use lib.Seq.{drop-drop}
-use borrow.Author.Tests.{not-true, not-false}
+use lib.Dec.{ltb}
+use borrow.Author.Tests.{not-true, not-false, lt-ltb, le-ltb, ltb-true, ltb-false}
 use Rattle.infon.specs.declared.Record.{Record}
-use Rattle.infon.specs.Journal.{recordBytes, decoded, wholeRecords, followed}
-use Rattle.table.specs.Tests.{goodIn}
-use Rattle.table.proofs.Given.{good-below}
+use Rattle.infon.specs.Journal.{recordBytes, wholeRecords, followed, hasNone}
+use Rattle.infon.proofs.Rows.{decided}
+use Rattle.formulas.specs.Tests.{goodIn}
+use Rattle.formulas.proofs.Given.{good-below}
 use Rattle.reader.specs.declared.Decoded.{Decoded}
 use Rattle.reader.specs.declared.Decoded.the-variants as Reads
 use Rattle.reader.specs.Decoded.{toDecoded, recordAt}
 use Rattle.reader.proofs.Reading.{nine-left}
-use Rattle.journal.specs.Kept.{markAll, onlyGoodIn, keptBy, keptIn, Keeps}
+use Rattle.journal.specs.Kept.{markAll, onlyGoodIn, keptBy, keptIn, recordOf, keptNext, markedWith, KeepsNext, Keeps}
 
 -- the nine bytes of a record
 abbrev rowAt : List ℕ → ℕ → List ℕ
@@ -43,85 +46,125 @@ rows-over journal used kept h = let none-left : used / 9 - kept ≡ 0 = omega ar
 -- What is kept of the whole is what is kept so far and what is kept of the rest.
 pub record Going (t : List ℕ) (n : ℕ) (journal : List ℕ) (used : ℕ) (marks₀ : List ℕ) (kept : ℕ) (marks : List ℕ) : Type 0 where
   pub inside : used ≤ length journal
+  pub within : kept ≤ used / 9
   pub long : length marks ≡ length marks₀
   pub counts : length (keptIn t n marks₀ journal used) ≡ kept + length (keptBy t n marks (rowsFrom journal used kept))
   pub marked : markAll marks₀ (keptIn t n marks₀ journal used) ≡ markAll marks (keptBy t n marks (rowsFrom journal used kept))
 
-decoded-record : (o : Option Record) (r : Record) → Reads.Record r ≡ toDecoded o → o ≡ some r
-decoded-record none r e = cc
-decoded-record (some q) r e = cc
-
-decoded-nothing : (o : Option Record) → Reads.Nothing ≡ toDecoded o → o ≡ none
-decoded-nothing none e = refl
-decoded-nothing (some q) e = cc
+record-of : (o : Option Record) → recordOf (toDecoded o) ≡ o
+record-of none = refl
+record-of (some r) = refl
 
 pub passed-below : (t : List ℕ) (n : ℕ) (marks : List ℕ) (r : Record) {good : Bool} → good ≡ goodIn t n marks r → not good ≡ false
     → r .formula < n
 passed-below t n marks r tests passed = good-below t n marks r (sym tests ∙ not-false _ passed)
 
-kept-good : (t : List ℕ) (n : ℕ) (marks s : List ℕ) (rest : List (List ℕ)) (r : Record) → decoded s ≡ some r → goodIn t n marks r ≡ true
-    → keptBy t n marks (s ∷ rest) ≡ r ∷ keptBy t n (set marks (r .formula) 1) rest
-unfolding keptBy onlyGoodIn followed
-kept-good t n marks s rest r e good = rw (e, good)
+none-either : (b : Bool) (o : Option Record) → o ≡ none → cond b o none ≡ none
+none-either true o e = e
+none-either false o e = refl
 
-kept-bad : (t : List ℕ) (n : ℕ) (marks s : List ℕ) (rest : List (List ℕ)) (r : Record) → decoded s ≡ some r → goodIn t n marks r ≡ false
-    → keptBy t n marks (s ∷ rest) ≡ []
-unfolding keptBy onlyGoodIn followed
-kept-bad t n marks s rest r e bad = rw (e, bad)
+-- what `keep_next` tells, by the tests that led there
+module _ (t : List ℕ) (n : ℕ) (marks : List ℕ) (read : Decoded) (kept used : ℕ) where
+  none-next : keptNext t n marks read kept used ≡ none → KeepsNext t n marks read kept used false marks
+  unfolding hasNone markedWith
+  none-next e = record { told = rw e; marked = rw e }
 
-kept-none : (t : List ℕ) (n : ℕ) (marks s : List ℕ) (rest : List (List ℕ)) → decoded s ≡ none → keptBy t n marks (s ∷ rest) ≡ []
-unfolding keptBy onlyGoodIn followed
-kept-none t n marks s rest e = rw e
+  pub behind-used : used / 9 ≤ kept → KeepsNext t n marks read kept used false marks
+  unfolding keptNext recordBytes
+  behind-used h = none-next (rw (le-ltb kept (used / 9) h))
 
-kept-over : (t : List ℕ) (n : ℕ) (marks : List ℕ) → keptBy t n marks [] ≡ []
-unfolding keptBy
-kept-over t n marks = refl
+  none-good : onlyGoodIn t n marks (recordOf read) ≡ none → KeepsNext t n marks read kept used false marks
+  unfolding keptNext
+  none-good e = none-next (none-either (ltb kept (used / recordBytes)) (onlyGoodIn t n marks (recordOf read)) e)
+
+  pub unread : read ≡ Reads.Nothing → KeepsNext t n marks read kept used false marks
+  unfolding onlyGoodIn
+  unread told = none-good (rw told)
+
+  module _ (r : Record) {good : Bool} (told : read ≡ Reads.Record r) (tests : good ≡ goodIn t n marks r) where
+    pub not-good : not good ≡ true → KeepsNext t n marks read kept used false marks
+    unfolding onlyGoodIn
+    not-good failed = none-good (rw (told, sym tests ∙ not-true _ failed))
+
+    pub is-kept : kept < used / 9 → not good ≡ false → KeepsNext t n marks read kept used true (set marks (r .formula) 1)
+    unfolding keptNext recordBytes onlyGoodIn hasNone markedWith
+    is-kept h passed =
+        let e : keptNext t n marks read kept used ≡ some r = rw (lt-ltb kept (used / 9) h, told, sym tests ∙ not-false _ passed) in
+        record { told = rw e; marked = rw e }
 
 module _ (t : List ℕ) (n : ℕ) (journal : List ℕ) (used : ℕ) (marks₀ : List ℕ) where
   pub begin : used ≤ length journal → Going t n journal used marks₀ 0 marks₀
   unfolding rowsFrom keptIn recordBytes
-  begin inside = let all : used / 9 - 0 ≡ used / 9 = omega arith in record { inside = inside; long = refl; counts = rw (all, zero-add); marked = rw all }
+  begin inside = let all : used / 9 - 0 ≡ used / 9 = omega arith in record { inside = inside; within = omega arith; long = refl; counts = rw (all, zero-add); marked = rw all }
 
   module _ {kept : ℕ} {marks : List ℕ} (going : Going t n journal used marks₀ kept marks) where
-    -- the reader finds what the nine bytes spell
-    row-read : kept < used / 9 → recordAt journal (kept * 9) ≡ decoded (rowAt journal kept)
-    row-read h = let inside = going .inside in nine-left journal (kept * 9) (omega arith)
+    -- the next record of the journal is kept where the reader's is
+    next-is : {read : Decoded} → kept < used / 9 → read ≡ toDecoded (recordAt journal (kept * 9))
+        → keptBy t n marks (rowsFrom journal used kept)
+        ≡ followed (keptNext t n marks read kept used) (λ (r : Record). keptBy t n (set marks (r .formula) 1) (rowsFrom journal used (kept + 1)))
+    unfolding keptBy keptNext recordBytes
+    next-is h reads =
+        let inside = going .inside in
+        rw (rows-more journal used kept h, lt-ltb kept (used / 9) h, reads, record-of, nine-left journal (kept * 9) (omega arith))
 
-    pub turn : (r : Record) {read : Decoded} {good : Bool} → kept < used / 9 → read ≡ toDecoded (recordAt journal (kept * 9))
-        → read ≡ Reads.Record r → good ≡ goodIn t n marks r → not good ≡ false
-        → Going t n journal used marks₀ (kept + 1) (set marks (r .formula) 1)
-    unfolding markAll
-    turn r h reads told tests passed =
-        let row = sym (row-read h) ∙ decoded-record (recordAt journal (kept * 9)) r (sym told ∙ reads) in
-        let good : goodIn t n marks r ≡ true = sym tests ∙ not-false _ passed in
-        let step = ap (keptBy t n marks) (rows-more journal used kept h) ∙ kept-good t n marks (rowAt journal kept) (rowsFrom journal used (kept + 1)) r row good in
-        let size = ap length step in
-        let counts = going .counts in
-        record {
-          inside = going .inside;
-          long = length-set marks (r .formula) 1 ∙ going .long;
-          counts = omega arith;
-          marked = going .marked ∙ ap (markAll marks) step;
-        }
+    inside-used : (read : Decoded) (r : Record) → keptNext t n marks read kept used ≡ some r → kept < used / 9
+    unfolding keptNext recordBytes
+    inside-used read r e =
+        ⊎-elim
+        (λ (h : ltb kept (used / 9) ≡ true). ltb-true kept (used / 9) h)
+        (λ (h : ltb kept (used / 9) ≡ false).
+        let none-is = ap (λ (b : Bool). cond b (onlyGoodIn t n marks (recordOf read)) none) h in
+        let never : _≡_ {A = ℕ} 0 1 = cc in absurd (omega arith))
+        (decided (ltb kept (used / 9)))
 
-    -- where nothing more is kept, the count and the marks are the whole's
-    over : keptBy t n marks (rowsFrom journal used kept) ≡ [] → Keeps t n journal used marks₀ kept marks
-    unfolding markAll
-    over e =
-        let size = ap length e in
-        let counts = going .counts in
-        record { counted = omega arith; marked = sym (going .marked ∙ ap (markAll marks) e) }
+    nothing-more : {read : Decoded} → read ≡ toDecoded (recordAt journal (kept * 9)) → keptNext t n marks read kept used ≡ none
+        → keptBy t n marks (rowsFrom journal used kept) ≡ []
+    unfolding keptBy followed
+    nothing-more reads e =
+        ⊎-elim
+        (λ (h : ltb kept (used / 9) ≡ true). next-is (ltb-true kept (used / 9) h) reads ∙ rw e)
+        (λ (h : ltb kept (used / 9) ≡ false). rw (rows-over journal used kept (ltb-false kept (used / 9) h)))
+        (decided (ltb kept (used / 9)))
 
-    pub stop-unread : {read : Decoded} → kept < used / 9 → read ≡ toDecoded (recordAt journal (kept * 9)) → read ≡ Reads.Nothing
-        → Keeps t n journal used marks₀ kept marks
-    stop-unread h reads told =
-        over (ap (keptBy t n marks) (rows-more journal used kept h) ∙ kept-none t n marks (rowAt journal kept) (rowsFrom journal used (kept + 1)) (sym (row-read h) ∙ decoded-nothing (recordAt journal (kept * 9)) (sym told ∙ reads)))
+    module _ {read : Decoded} (reads : read ≡ toDecoded (recordAt journal (kept * 9))) {goes : Bool} {after : List ℕ}
+        (keeps : KeepsNext t n marks read kept used goes after) where
+      -- a record more is kept
+      one-more : (o : Option Record) → keptNext t n marks read kept used ≡ o → goes ≡ true
+          → (kept < used / 9) × Going t n journal used marks₀ (kept + 1) after
+      unfolding hasNone markedWith followed markAll
+      one-more none is e = absurd (false≢true (sym (keeps .told ∙ ap (λ (o : Option Record). not (hasNone o)) is) ∙ e))
+      one-more (some r) is e =
+          let h = inside-used read r is in
+          let step =
+          next-is h reads
+          ∙ ap (λ (o : Option Record). followed o (λ (q : Record). keptBy t n (set marks (q .formula) 1) (rowsFrom journal used (kept + 1)))) is in
+          let size = ap length step in
+          let counts = going .counts in
+          let after-is : after ≡ set marks (r .formula) 1 = keeps .marked ∙ ap (markedWith marks) is in (
+            h,
+            rw after-is
+                (record {
+                  inside = going .inside;
+                  within = omega arith;
+                  long = length-set marks (r .formula) 1 ∙ going .long;
+                  counts = omega arith;
+                  marked = going .marked ∙ ap (markAll marks) step;
+                }),
+          )
 
-    pub stop-bad : (r : Record) {read : Decoded} {good : Bool} → kept < used / 9 → read ≡ toDecoded (recordAt journal (kept * 9))
-        → read ≡ Reads.Record r → good ≡ goodIn t n marks r → not good ≡ true → Keeps t n journal used marks₀ kept marks
-    stop-bad r h reads told tests failed =
-        over (ap (keptBy t n marks) (rows-more journal used kept h)
-        ∙ kept-bad t n marks (rowAt journal kept) (rowsFrom journal used (kept + 1)) r (sym (row-read h) ∙ decoded-record (recordAt journal (kept * 9)) r (sym told ∙ reads)) (sym tests ∙ not-true _ failed))
+      pub turn : goes ≡ true → (kept < used / 9) × Going t n journal used marks₀ (kept + 1) after
+      turn e = one-more (keptNext t n marks read kept used) refl e
 
-    pub stop-over : used / 9 ≤ kept → Keeps t n journal used marks₀ kept marks
-    stop-over h = over (ap (keptBy t n marks) (rows-over journal used kept h) ∙ kept-over t n marks)
+      -- where nothing more is kept, the count and the marks are the whole's
+      no-more : (o : Option Record) → keptNext t n marks read kept used ≡ o → goes ≡ false → Keeps t n journal used marks₀ kept after
+      unfolding hasNone markedWith markAll
+      no-more none is e =
+          let rest = nothing-more reads is in
+          let size = ap length rest in
+          let counts = going .counts in
+          let after-is : after ≡ marks = keeps .marked ∙ ap (markedWith marks) is in
+          record { counted = omega arith; marked = after-is ∙ sym (going .marked ∙ ap (markAll marks) rest) }
+      no-more (some r) is e = absurd (false≢true (sym e ∙ (keeps .told ∙ ap (λ (o : Option Record). not (hasNone o)) is)))
+
+      pub over : goes ≡ false → Keeps t n journal used marks₀ kept after
+      over e = no-more (keptNext t n marks read kept used) refl e

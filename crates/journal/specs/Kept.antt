@@ -1,13 +1,16 @@
 -- The kept part over the formula table and the marks: what the code goes through. The laws join it to the paper's kept part.
 use Prim.Native.Nat.{ℕ, _/_}
 use mathlib.Core.Path.{_≡_}
-use mathlib.Core.Bool.{cond}
+use mathlib.Core.Bool.{Bool, cond, not}
 use mathlib.Core.Option.{Option, none, some}
 use mathlib.Core.List.{List, [], _∷_}
 use lib.ListN.{length, set}
+use lib.Dec.{ltb}
 use Rattle.infon.specs.declared.Record.{Record}
-use Rattle.infon.specs.Journal.{recordBytes, decoded, wholeRecords, followed}
-use Rattle.table.specs.Tests.{goodIn}
+use Rattle.infon.specs.Journal.{recordBytes, decoded, wholeRecords, followed, hasNone}
+use Rattle.reader.specs.declared.Decoded.{Decoded}
+use Rattle.reader.specs.declared.Decoded.the-variants as Reads
+use Rattle.formulas.specs.Tests.{goodIn}
 
 -- the marks with those of some more records
 unfoldable pub markAll : List ℕ → List Record → List ℕ
@@ -28,6 +31,24 @@ keptBy t n marks (s ∷ rest) =
 -- the kept part: of the whole records inside the used length
 unfoldable pub keptIn : List ℕ → ℕ → List ℕ → List ℕ → ℕ → List Record
 keptIn t n marks journal used = keptBy t n marks (wholeRecords (used / recordBytes) journal)
+
+-- the record that was read, if any was; and it is kept next where it stands inside the used length and is good after the marked ones
+abbrev pub recordOf : Decoded → Option Record
+recordOf Reads.Nothing = none
+recordOf (Reads.Record r) = some r
+
+unfoldable pub keptNext : List ℕ → ℕ → List ℕ → Decoded → ℕ → ℕ → Option Record
+keptNext t n marks read kept used = cond (ltb kept (used / recordBytes)) (onlyGoodIn t n marks (recordOf read)) none
+
+-- the marks with that of a record, if any
+unfoldable pub markedWith : List ℕ → Option Record → List ℕ
+markedWith marks none = marks
+markedWith marks (some r) = set marks (r .formula) 1
+
+-- What looking at the next record gives: whether it is kept, and the marks with its own.
+pub record KeepsNext (t : List ℕ) (n : ℕ) (marks : List ℕ) (read : Decoded) (kept used : ℕ) (goes : Bool) (after : List ℕ) : Type 0 where
+  pub told : goes ≡ not (hasNone (keptNext t n marks read kept used))
+  pub marked : after ≡ markedWith marks (keptNext t n marks read kept used)
 
 -- What going through the journal gives: how many records are kept, and the marks with theirs.
 pub record Keeps (t : List ℕ) (n : ℕ) (journal : List ℕ) (used : ℕ) (marks : List ℕ) (count : ℕ) (after : List ℕ) : Type 0 where

@@ -1,4 +1,5 @@
-// The journal: its records written as bytes, and the part of it that is kept. The crate `reader` says which nine bytes a record is.
+// The part of a journal that is kept, and records written as bytes. The crate `reader` says which nine bytes a record is.
+use infon::RECORD_BYTES;
 use infon::Record;
 use infon::Way;
 use reader::Decoded;
@@ -10,9 +11,8 @@ ghost use Prim.Native.Nat.{_+_, _<_, _≤_};
 ghost use lib.ListN.{length};
 ghost use Rattle.infon.specs.Journal.{ruleOf, firstPremise, secondPremise, twoBytes, spelled};
 ghost use Rattle.infon.specs.Run.{written};
-ghost use Rattle.journal.specs.Kept.{Keeps};
-
-pub const RECORD_BYTES: usize = reader::RECORD_BYTES;
+ghost use Rattle.formulas.specs.Table.{tableRows, tableCells};
+ghost use Rattle.journal.specs.Kept.{KeepsNext, Keeps};
 
 // The rule's number, 1 to 8.
 fn rule_of(way: Way) -> u8
@@ -86,23 +86,43 @@ pub fn encode(tail: &mut [u8], r: Record)
     put_number(tail, 7, second_premise(way));
 }
 
-// Goes through the journal record by record, as long as each is good after the marked ones, and marks it. Gives how many are kept.
+// Whether a record that was read behind the first `kept` is kept too: it stands inside the used length and is good after the marked
+// ones. It is marked then.
+fn keep_next(
+    table: &[u16],
+    n: usize,
+    marks: &mut [u8],
+    read: Decoded,
+    kept: usize,
+    used: usize,
+) -> bool
+    requires { ⌜ (tableCells ≤ length (now table)) × (n ≤ tableRows) × (tableRows ≤ length (now marks)) ⌝ }
+    ensures { λ r. ⌜ KeepsNext (now (table .entry)) n (now (marks .entry)) read kept used r (now (marks .exit)) ⌝ }
+{
+    if used / RECORD_BYTES <= kept {
+        return false;
+    }
+    let Decoded::Record(r) = read else {
+        return false;
+    };
+    if !rules::is_good(table, n, marks, r) {
+        return false;
+    }
+    let formula = r.formula;
+    marks[formula] = 1;
+    true
+}
+
+// Goes through the journal with a reader, record by record, as long as each is good after the marked ones, and marks it. Gives how
+// many are kept.
 pub fn keep(table: &[u16], n: usize, journal: &[u8], used: usize, marks: &mut [u8]) -> usize
-    requires { ⌜ (24576 ≤ length (now table)) × (n ≤ 4096) × (4096 ≤ length (now marks)) × (used ≤ length (now journal)) ⌝ }
+    requires { ⌜ (tableCells ≤ length (now table)) × (n ≤ tableRows) × (tableRows ≤ length (now marks)) × (used ≤ length (now journal)) ⌝ }
     ensures { λ r. ⌜ Keeps (now (table .entry)) n (now (journal .entry)) used (now (marks .entry)) r (now (marks .exit)) ⌝ }
 {
-    let whole = used / RECORD_BYTES;
     let mut kept = 0;
-    while kept < whole {
-        let at = kept * RECORD_BYTES;
-        let Decoded::Record(r) = reader::read_at(journal, at) else {
-            return kept;
-        };
-        if !rules::is_good(table, n, marks, r) {
-            return kept;
-        }
-        let formula = r.formula;
-        marks[formula] = 1;
+    let mut here = reader::reader_at(journal, 0);
+    while keep_next(table, n, marks, reader::next_in(here), kept, used) {
+        here = reader::moved(here);
         kept += 1;
     }
     kept

@@ -6,7 +6,7 @@ use mathlib.Core.List.{List}
 use native.Mathlib.Omega.{arith}
 use lib.ListN.{getD, set}
 use borrow.Author.Tests.{lt-ltb, le-ltb}
-use Rattle.table.specs.Table.{noNumber, cell}
+use Rattle.formulas.specs.Table.{noNumber, cell}
 use Rattle.links.specs.Chains.{noneFirst, linkPlace, linkDown, chainIn, linkedIn}
 
 pub none-turn : (at x : ℕ) (links : List ℕ) → 0 < x

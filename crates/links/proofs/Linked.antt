@@ -15,9 +15,9 @@ use borrow.Author.Tests.{lt-ltb, le-ltb, ltb-true, ltb-false, eqb-true, eqb-fals
 use Rattle.infon.specs.Formula.{Formula}
 use Rattle.infon.specs.Rules.{numbered}
 use Rattle.infon.proofs.Rows.{decided}
-use Rattle.table.specs.Table.{noNumber, cell, cellOf, bottomOf, tableColumns, Tabled}
-use Rattle.table.proofs.Numbers.{numberIn-below}
-use Rattle.links.specs.Chains.{FirstFrom, ChainOf, Ready, noneFirst, linkPlace, linkDown, chainIn, linkedIn}
+use Rattle.formulas.specs.Table.{tableRows, tableCells, noNumber, cell, cellOf, bottomOf, Tabled}
+use Rattle.formulas.proofs.Numbers.{numberIn-below}
+use Rattle.links.specs.Chains.{linkCells, FirstFrom, ChainOf, Searchable, noneFirst, linkPlace, linkDown, chainIn, linkedIn}
 
 -- one place more in front, which holds another number
 widen : (t : List ℕ) (column x n i place : ℕ) → FirstFrom t column x n (suc i) place → (cell t column i ≡ x → ⊥)
@@ -237,8 +237,8 @@ chain-stays t column n at links after few kept chain =
     }
 
 -- what `link` leaves is what the search asks for
-pub linked-ready : (t links marks : List ℕ) (n : ℕ) → n ≤ 4096 → 24576 ≤ length t → 24576 ≤ length links → n ≤ length marks
-    → ((i : ℕ) → i < n → cell t 4 i < n) → Ready t (linkedIn t n links) marks n
+pub linked-ready : (t links marks : List ℕ) (n : ℕ) → n ≤ tableRows → tableCells ≤ length t → linkCells ≤ length links → n ≤ length marks
+    → ((i : ℕ) → i < n → cell t 4 i < n) → Searchable t (linkedIn t n links) marks n
 unfolding linkedIn Out
 linked-ready t links marks n few wide long room below =
     let one : List ℕ = chainIn t 2 n 0 links in
@@ -268,7 +268,7 @@ linked-ready t links marks n few wide long room below =
 -- the bottoms of a list that a table holds are on it
 pub bottoms-below : (hyps fs : List Formula) (t : List ℕ) (n : ℕ) → length fs ≡ n → Tabled hyps fs t → (i : ℕ) → i < n
     → cell t 4 i < n
-unfolding cellOf tableColumns
+unfolding cellOf
 bottoms-below hyps fs t n count tabled i h =
     let inside : i < length fs = omega arith in
     let less = numberIn-below fs (bottomOf (numbered fs i)) (tabled .bottoms i inside) in

@@ -5,22 +5,28 @@ use mathlib.Core.Bool.{cond}
 use mathlib.Core.List.{List}
 use lib.ListN.{length, getD, set}
 use lib.Dec.{ltb}
-use Rattle.table.specs.Table.{noNumber, cell}
-use Rattle.table.specs.Tests.{leftAt, rightAt, bottomAt}
+use Rattle.formulas.specs.Table.{noNumber, tableRows, tableCells, cell}
+use Rattle.formulas.specs.Tests.{leftAt, rightAt, bottomAt}
 
 -- The chains of a column begin at a place of their own in the links: first 4,096 entries that say, by number, where the number
--- first stands in the column, then 4,096 that say, by place, where what stands there stands next.
+-- first stands in the column, then 4,096 that say, by place, where what stands there stands next. Three columns have chains.
+abbrev pub chainCells : ℕ
+chainCells = 8192
+
+abbrev pub linkCells : ℕ
+linkCells = 24576
+
 abbrev pub firstEntry : ℕ → ℕ → ℕ
 firstEntry at x = at + x
 
 abbrev pub nextEntry : ℕ → ℕ → ℕ
-nextEntry at i = at + 4096 + i
+nextEntry at i = at + tableRows + i
 
 abbrev pub lefts : ℕ
 lefts = 0
 
 abbrev pub rights : ℕ
-rights = 8192
+rights = chainCells
 
 abbrev pub bottoms : ℕ
 bottoms = 16384
@@ -37,10 +43,10 @@ pub record ChainOf (t : List ℕ) (column n : ℕ) (links : List ℕ) (at : ℕ)
       → FirstFrom t column (cell t column i) n (suc i) (getD links (nextEntry at i) 0)
 
 -- What the search for a way asks of its tables: room, all bottoms on the list, and the three chains.
-pub record Ready (t : List ℕ) (links marks : List ℕ) (n : ℕ) : Type 0 where
-  pub few : n ≤ 4096
-  pub table-long : 24576 ≤ length t
-  pub links-long : 24576 ≤ length links
+pub record Searchable (t : List ℕ) (links marks : List ℕ) (n : ℕ) : Type 0 where
+  pub few : n ≤ tableRows
+  pub table-long : tableCells ≤ length t
+  pub links-long : linkCells ≤ length links
   pub marks-long : n ≤ length marks
   pub below : (i : ℕ) → i < n → cell t bottomAt i < n
   pub left-chains : ChainOf t leftAt n links lefts

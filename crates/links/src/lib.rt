@@ -1,12 +1,16 @@
 // The chains along which a way is looked for: formulas that have the same left part, the same right part, or the same form with
 // put at every place.
-use table::BOTTOM;
-use table::LEFT;
-use table::RIGHT;
+use formulas::BOTTOM;
+use formulas::LEFT;
+use formulas::RIGHT;
 ghost use mathlib.Core.Path.{_≡_};
 ghost use Prim.Native.Nat.{_+_, _<_, _≤_};
 ghost use lib.ListN.{length, getD};
-ghost use Rattle.links.specs.Chains.{noneFirst, linkPlace, chainIn, linkedIn};
+ghost use Rattle.formulas.specs.Table.{tableRows, tableCells, tableColumns};
+ghost use Rattle.links.specs.Chains.{linkCells, chainCells, noneFirst, linkPlace, chainIn, linkedIn};
+
+// How many cells the links have.
+pub const CELLS: usize = 24576;
 
 // Where the chains of a column begin in the links, and how far on the entries by place do.
 pub const LEFTS: usize = 0;
@@ -15,26 +19,29 @@ pub const RIGHTS: usize = 8192;
 
 pub const BOTTOMS: usize = 16384;
 
-pub const NEXTS: usize = 4096;
+pub const NEXTS: usize = formulas::ROWS;
+
+// Stands for no place.
+const NONE: u16 = formulas::NO_NUMBER as u16;
 
 // Says of each number below n that it stands nowhere yet.
 fn clear_firsts(links: &mut [u16], at: usize, n: usize)
-    requires { ⌜ (n ≤ 4096) × (at + 4096 ≤ length (now links)) ⌝ }
+    requires { ⌜ (n ≤ tableRows) × (at + tableRows ≤ length (now links)) ⌝ }
     ensures { λ _. ⌜ now (links .exit) ≡ noneFirst at n (now (links .entry)) ⌝ }
 {
     let mut x = n;
     while 0 < x {
         x -= 1;
-        links[at + x] = 65535;
+        links[at + x] = NONE;
     }
 }
 
 // Puts a place in front of the chain of the number that stands there.
 fn link_place(table: &[u16], column: usize, n: usize, links: &mut [u16], at: usize, i: usize)
-    requires { ⌜ (n ≤ 4096) × (24576 ≤ length (now table)) × (column < 6) × (at + 8192 ≤ length (now links)) × (i < n) ⌝ }
+    requires { ⌜ (n ≤ tableRows) × (tableCells ≤ length (now table)) × (column < tableColumns) × (at + chainCells ≤ length (now links)) × (i < n) ⌝ }
     ensures { λ _. ⌜ now (links .exit) ≡ linkPlace (now (table .entry)) column n at i (now (links .entry)) ⌝ }
 {
-    let x = rules::cell_at(table, column, i);
+    let x = formulas::cell_at(table, column, i);
     if x < n {
         let first = links[at + x];
         links[at + NEXTS + i] = first;
@@ -44,7 +51,7 @@ fn link_place(table: &[u16], column: usize, n: usize, links: &mut [u16], at: usi
 
 // Fills the chains of one column.
 fn chain(table: &[u16], column: usize, n: usize, links: &mut [u16], at: usize)
-    requires { ⌜ (n ≤ 4096) × (24576 ≤ length (now table)) × (column < 6) × (at + 8192 ≤ length (now links)) ⌝ }
+    requires { ⌜ (n ≤ tableRows) × (tableCells ≤ length (now table)) × (column < tableColumns) × (at + chainCells ≤ length (now links)) ⌝ }
     ensures { λ _. ⌜ now (links .exit) ≡ chainIn (now (table .entry)) column n at (now (links .entry)) ⌝ }
 {
     clear_firsts(links, at, n);
@@ -57,7 +64,7 @@ fn chain(table: &[u16], column: usize, n: usize, links: &mut [u16], at: usize)
 
 // Fills the chains of formulas with the same left part, the same right part and the same bottom.
 pub fn link(table: &[u16], n: usize, links: &mut [u16])
-    requires { ⌜ (n ≤ 4096) × (24576 ≤ length (now table)) × (24576 ≤ length (now links)) ⌝ }
+    requires { ⌜ (n ≤ tableRows) × (tableCells ≤ length (now table)) × (linkCells ≤ length (now links)) ⌝ }
     ensures { λ _. ⌜ now (links .exit) ≡ linkedIn (now (table .entry)) n (now (links .entry)) ⌝ }
 {
     chain(table, LEFT, n, links, LEFTS);

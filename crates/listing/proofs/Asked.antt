@@ -9,7 +9,10 @@ use lib.ListN.{length, drop}
 use lib.Dec.{ltb}
 use borrow.Author.Tests.{lt-ltb, le-ltb}
 use Rattle.infon.specs.Formula.{Formula, True, name, and, implies, quoted}
-use Rattle.infon.specs.Policy.{Entry, formulaIn, Verdict, passed, refused, when, andThen}
+use Rattle.infon.specs.declared.Verdict.{Verdict}
+use Rattle.infon.specs.declared.Verdict.the-variants.{Passed, Refused}
+use Rattle.infon.specs.Codes.{when, andThen}
+use Rattle.infon.specs.Policy.{Entry, formulaIn}
 use Rattle.infon.specs.Listing.{weakened, weakenedBases, enlist, listOf, mostListed, code5From, code5}
 use Rattle.infon.proofs.Listed.{unskipped, listFrom-enlist, enlist-append, enlist-begins, begins-shorter}
 use Rattle.nodes.specs.Nodes.{Node, root, part, inner, kidsOf, kids, after, nodeAt, roots, countNodes}
@@ -71,7 +74,7 @@ listed-all entries =
 
 -- Code 5 of the rows still to be gone through.
 unfoldable pub code5Of : List Formula → List Node → Verdict
-code5Of fs [] = passed
+code5Of fs [] = Passed
 code5Of fs (n ∷ row) =
     let now = enlist fs (weakenedBases (n .pre) (n .what)) in
     andThen (when (ltb mostListed (length now)) 5 (n .line)) (code5Of now row)
@@ -121,13 +124,13 @@ module _ (fs : List Formula) (i : ℕ) (n : Node) (row : List Node) where
 
   -- the node's own forms are too many already: so is the line's
   refused-at : (own xs : List Formula) → mostListed < length (enlist fs own)
-      → andThen (when (ltb mostListed (length (enlist fs (own ++ xs)))) 5 (n .line)) (code5Of (enlist fs (own ++ xs)) row) ≡ refused 5 (n .line)
+      → andThen (when (ltb mostListed (length (enlist fs (own ++ xs)))) 5 (n .line)) (code5Of (enlist fs (own ++ xs)) row) ≡ Refused 5 (n .line)
   unfolding andThen when
   refused-at own xs over =
       let e = ap length (enlist-append fs own xs) in
       rw (lt-ltb mostListed (length (enlist fs (own ++ xs))) (omega (arith, longer (enlist fs own) xs)))
 
-  code5-refused : (w : Formula) → length fs ≤ mostListed → mostListed < length (Own w) → After w ≡ refused 5 (n .line)
+  code5-refused : (w : Formula) → length fs ≤ mostListed → mostListed < length (Own w) → After w ≡ Refused 5 (n .line)
   unfolding weakenedBases isBase enlist
   code5-refused True few over = rw (← append-nil (weakened (n .pre) True)) (refused-at (weakened (n .pre) True) [] over)
   code5-refused (name a) few over = rw (← append-nil (weakened (n .pre) (name a))) (refused-at (weakened (n .pre) (name a)) [] over)
@@ -154,7 +157,7 @@ module _ (entries : List Entry) where
 
   pub code5-over : (i : ℕ) → i < countNodes (roots entries) → length (listedTo (roots entries) i) ≤ mostListed
       → mostListed < length (listedTo (roots entries) (suc i))
-      → code5 entries ≡ code5Of (listedTo (roots entries) i) (after 0 i (roots entries)) → code5 entries ≡ refused 5 (nodeAt (roots entries) i .line)
+      → code5 entries ≡ code5Of (listedTo (roots entries) i) (after 0 i (roots entries)) → code5 entries ≡ Refused 5 (nodeAt (roots entries) i .line)
   unfolding listedTo ownForms code5Of
   code5-over i h few over so-far =
       let row = roots entries in
@@ -163,7 +166,7 @@ module _ (entries : List Entry) where
       ∙ code5-refused (listedTo row i) i (nodeAt row i) (drop 1 (after 0 i row)) (nodeAt row i .what) few over
 
   pub code5-end : code5 entries ≡ code5Of (listedTo (roots entries) (countNodes (roots entries))) (after 0 (countNodes (roots entries)) (roots entries))
-      → code5 entries ≡ passed
+      → code5 entries ≡ Passed
   unfolding code5Of
   code5-end so-far =
       so-far

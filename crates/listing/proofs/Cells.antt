@@ -15,18 +15,19 @@ use Rattle.infon.specs.Listing.{Prefix, wrap, isListed}
 use Rattle.infon.specs.Rules.{shapeUnder, shapeOf, prefixUnder, coreOf, numbered}
 use Rattle.infon.proofs.Rows.{decided}
 use Rattle.infon.proofs.Prefixes.{shape-wrap}
-use Rattle.nodes.specs.Nodes.{Node, nodeAt, countNodes, kindOf, nodesOf}
+use Rattle.nodes.specs.Nodes.{Node, nodeAt, countNodes, kindOf, nodesOf, nodeRows, nodeKind, nodeEnd, nodeCell, NodesHeld}
 use Rattle.nodes.proofs.Order.{quoted-high}
-use Rattle.table.specs.Table.{numberIn, noNumber, putMask, allPut, bottomOf, shapeKind, leftIn, rightIn}
+use Rattle.formulas.specs.Table.{numberIn, noNumber, putMask, allPut, bottomOf, shapeKind, leftNumber, rightNumber}
 use Rattle.prefix.specs.Weaker.{weakerCount, choose, inwards, isBase, formAt}
-use Rattle.prefix.specs.Held.{NodesHeld}
 use Rattle.prefix.proofs.Chosen.{choose-bottom, choose-last, choose-length, weaker-count-positive, mask-bound}
 use Rattle.prefix.proofs.Shown.{kind-cell, count-few, pre-few, node-weaker}
 use Rattle.prefix.proofs.Inside.{kind-quoted, base-kind, quoted-kind, inside-below, inside-weaker, inside-form, Parts, left-below, right-below, left-form, right-form, left-weaker, right-weaker}
-use Rattle.columns.specs.Columns.{stride, inwardKind, numberFrom, numberAt, kindColumn, putColumn, leftColumn, rightColumn, bottomColumn, IsForm, IsOwner}
+use Rattle.columns.specs.Columns.{stride, inwardKind, formNumberFrom, formNumber, kindColumn, putColumn, leftColumn, rightColumn, bottomColumn, baseColumn, IsForm, IsOwner}
 use Rattle.columns.proofs.Steps.{kind-inward, form-parts, right-number}
 use Rattle.listing.specs.Forms.{keyAt, Form, Owned, Placed}
+use Rattle.listing.specs.Outcome.{baseIn}
 use Rattle.listing.proofs.Keys.{wrapped-prefix, wrapped-core}
+use Rattle.listing.proofs.Bases.{base-is}
 use Rattle.listing.proofs.Enter.{form-few}
 
 -- what a base's shape under a prefix tells
@@ -39,16 +40,16 @@ shape-kind w (implies x y) h = refl
 shape-kind w (quoted q x) h = absurd (false≢true h)
 
 -- a base with no parts
-no-left : (fs : List Formula) (w : Prefix) (x : Formula) → kindOf x < 2 → leftIn fs (shapeUnder w x) ≡ noNumber
-unfolding kindOf shapeUnder leftIn
+no-left : (fs : List Formula) (w : Prefix) (x : Formula) → kindOf x < 2 → leftNumber fs (shapeUnder w x) ≡ noNumber
+unfolding kindOf shapeUnder leftNumber
 no-left fs w True h = refl
 no-left fs w (name a) h = refl
 no-left fs w (and x y) h = absurd (omega arith)
 no-left fs w (implies x y) h = absurd (omega arith)
 no-left fs w (quoted q x) h = absurd (let more = quoted-high q x in omega arith)
 
-no-right : (fs : List Formula) (w : Prefix) (x : Formula) → kindOf x < 2 → rightIn fs (shapeUnder w x) ≡ noNumber
-unfolding kindOf shapeUnder rightIn
+no-right : (fs : List Formula) (w : Prefix) (x : Formula) → kindOf x < 2 → rightNumber fs (shapeUnder w x) ≡ noNumber
+unfolding kindOf shapeUnder rightNumber
 no-right fs w True h = refl
 no-right fs w (name a) h = refl
 no-right fs w (and x y) h = absurd (omega arith)
@@ -62,37 +63,37 @@ module _ (file t : List ℕ) (held : NodesHeld file t) (fs : List Formula) (cand
   row = nodesOf file
 
   abbrev Down : ℕ → ℕ → ℕ → Type 0
-  Down k j m = (numberFrom t cand k j m ≡ numberIn fs (formAt row j m)) × (isListed (formAt row j m) fs ≡ true)
+  Down k j m = (formNumberFrom t cand k j m ≡ numberIn fs (formAt row j m)) × (isListed (formAt row j m) fs ≡ true)
 
-  number-down : (k j m : ℕ) → k ≡ 1024 - j → j < countNodes row → m < weakerCount (nodeAt row j .pre) → Down k j m
-  unfolding numberFrom
+  number-down : (k j m : ℕ) → k ≡ nodeRows - j → j < countNodes row → m < weakerCount (nodeAt row j .pre) → Down k j m
+  unfolding formNumberFrom
   number-down zero j m e below less = absurd (omega (arith, count-few file t held))
   number-down (suc k) j m e below less =
       let kind = kind-cell file t held j below in
       ⊎-elim
-      (λ (low : ltb (getD t j 0) 4 ≡ true).
-      let base = base-kind (nodeAt row j .what) (subst (λ (n : ℕ). n < 4) kind (ltb-true (getD t j 0) 4 low)) in
+      (λ (low : ltb (nodeCell t nodeKind j) 4 ≡ true).
+      let base = base-kind (nodeAt row j .what) (subst (λ (n : ℕ). n < 4) kind (ltb-true (nodeCell t nodeKind j) 4 low)) in
       let here = placed j m (record { below = below; base = base; less = less }) in
       rw low (here .number, here .listed))
-      (λ (high : ltb (getD t j 0) 4 ≡ false).
-      let quoting = kind-quoted (nodeAt row j .what) (subst (λ (n : ℕ). 4 ≤ n) kind (ltb-false (getD t j 0) 4 high)) in
+      (λ (high : ltb (nodeCell t nodeKind j) 4 ≡ false).
+      let quoting = kind-quoted (nodeAt row j .what) (subst (λ (n : ℕ). 4 ≤ n) kind (ltb-false (nodeCell t nodeKind j) 4 high)) in
       let q = quoting .0 in
       let x = quoting .1 .0 in
       let what = quoting .1 .1 in
-      let step : inwardKind (getD t j 0) m ≡ inwards (q .told) m = ap (λ (n : ℕ). inwardKind n m) (kind ∙ ap kindOf what) ∙ kind-inward q x m in
+      let step : inwardKind (nodeCell t nodeKind j) m ≡ inwards (q .told) m = ap (λ (n : ℕ). inwardKind n m) (kind ∙ ap kindOf what) ∙ kind-inward q x m in
       let further =
       number-down k (suc j) (inwards (q .told) m) (omega arith) (inside-below row j m below q x what) (inside-weaker row j m below q x what less) in
       let same = inside-form row j m below q x what in
       rw (high, step) (further .0 ∙ ap (numberIn fs) same, subst (λ (z : Formula). isListed z fs ≡ true) same (further .1)))
-      (decided (ltb (getD t j 0) 4))
+      (decided (ltb (nodeCell t nodeKind j) 4))
 
   module _ (j m : ℕ) (below : j < countNodes row) (less : m < weakerCount (nodeAt row j .pre)) where
-    pub number-form : numberAt t cand j m ≡ numberIn fs (formAt row j m)
-    unfolding numberAt
-    number-form = number-down (1024 - j) j m refl below less .0
+    pub number-form : formNumber t cand j m ≡ numberIn fs (formAt row j m)
+    unfolding formNumber
+    number-form = number-down (nodeRows - j) j m refl below less .0
 
     pub form-listed : isListed (formAt row j m) fs ≡ true
-    form-listed = number-down (1024 - j) j m refl below less .1
+    form-listed = number-down (nodeRows - j) j m refl below less .1
 
   -- One formula.
   module _ (keys owners : List ℕ) (i : ℕ) (o : Owned row fs keys owners i) where
@@ -114,7 +115,7 @@ module _ (file t : List ℕ) (held : NodesHeld file t) (fs : List Formula) (cand
     pub owner-number : getD owners i 0 % stride ≡ l
     owner-number = omega (arith, o .owner, form-few row (pre-few file t held) b l (o .form))
 
-    kind-here : getD t b 0 ≡ kindOf x
+    kind-here : nodeCell t nodeKind b ≡ kindOf x
     kind-here = kind-cell file t held b (o .form .below)
 
     base-below : kindOf x < 4
@@ -140,7 +141,7 @@ module _ (file t : List ℕ) (held : NodesHeld file t) (fs : List Formula) (cand
     pub kind-column : kindColumn t owners i ≡ shapeKind (shapeOf (numbered fs i))
     unfolding kindColumn
     kind-column =
-        ap (λ (n : ℕ). getD t n 0) owner-node ∙ kind-here ∙ sym (shape-kind w x (o .form .base)) ∙ ap shapeKind (sym shape-is)
+        ap (λ (n : ℕ). nodeCell t nodeKind n) owner-node ∙ kind-here ∙ sym (shape-kind w x (o .form .base)) ∙ ap shapeKind (sym shape-is)
 
     prefix-is : prefixUnder [] (numbered fs i) ≡ w
     prefix-is = ap (prefixUnder []) formula-is ∙ wrapped-prefix w x (o .form .base)
@@ -156,64 +157,64 @@ module _ (file t : List ℕ) (held : NodesHeld file t) (fs : List Formula) (cand
         rest ∙ ap putMask (sym prefix-is)
 
     -- the parts
-    module _ (two : 2 ≤ getD t b 0) where
+    module _ (two : 2 ≤ nodeCell t nodeKind b) where
       abbrev parts : Parts row b
       parts = form-parts t b l form-here two (rw kind-here base-below)
 
-      left-number : numberAt t cand (b + 1) l ≡ numberIn fs (wrap w (parts .left))
+      left-number : formNumber t cand (b + 1) l ≡ numberIn fs (wrap w (parts .left))
       left-number =
-          ap (λ (n : ℕ). numberAt t cand n l) (add-one b)
+          ap (λ (n : ℕ). formNumber t cand n l) (add-one b)
           ∙ number-form (suc b) l (left-below row b (o .form .below) parts) (left-weaker row b (o .form .below) parts l (o .form .less))
           ∙ ap (numberIn fs) (left-form row b (o .form .below) parts l)
 
-      right-number-is : numberAt t cand (getD t (3072 + (b + 1)) 0) l ≡ numberIn fs (wrap w (parts .right))
+      right-number-is : formNumber t cand (nodeCell t nodeEnd (b + 1)) l ≡ numberIn fs (wrap w (parts .right))
       right-number-is =
-          ap (λ (n : ℕ). numberAt t cand n l) (right-number t b l form-here two (rw kind-here base-below))
+          ap (λ (n : ℕ). formNumber t cand n l) (right-number t b l form-here two (rw kind-here base-below))
           ∙ number-form (suc b + nodes (parts .left)) l (right-below row b (o .form .below) parts)
           (right-weaker row b (o .form .below) parts l (o .form .less))
           ∙ ap (numberIn fs) (right-form row b (o .form .below) parts l)
 
-      left-shown : numberIn fs (wrap w (parts .left)) ≡ leftIn fs (shapeUnder w x)
-      unfolding shapeUnder leftIn
+      left-shown : numberIn fs (wrap w (parts .left)) ≡ leftNumber fs (shapeUnder w x)
+      unfolding shapeUnder leftNumber
       left-shown = by (parts .whole)
         where
           by : (x ≡ and (parts .left) (parts .right)) ⊎ (x ≡ implies (parts .left) (parts .right))
-              → numberIn fs (wrap w (parts .left)) ≡ leftIn fs (shapeUnder w x)
-          by (inl e) = ap (λ (y : Formula). leftIn fs (shapeUnder w y)) (sym e)
-          by (inr e) = ap (λ (y : Formula). leftIn fs (shapeUnder w y)) (sym e)
+              → numberIn fs (wrap w (parts .left)) ≡ leftNumber fs (shapeUnder w x)
+          by (inl e) = ap (λ (y : Formula). leftNumber fs (shapeUnder w y)) (sym e)
+          by (inr e) = ap (λ (y : Formula). leftNumber fs (shapeUnder w y)) (sym e)
 
-      right-shown : numberIn fs (wrap w (parts .right)) ≡ rightIn fs (shapeUnder w x)
-      unfolding shapeUnder rightIn
+      right-shown : numberIn fs (wrap w (parts .right)) ≡ rightNumber fs (shapeUnder w x)
+      unfolding shapeUnder rightNumber
       right-shown = by (parts .whole)
         where
           by : (x ≡ and (parts .left) (parts .right)) ⊎ (x ≡ implies (parts .left) (parts .right))
-              → numberIn fs (wrap w (parts .right)) ≡ rightIn fs (shapeUnder w x)
-          by (inl e) = ap (λ (y : Formula). rightIn fs (shapeUnder w y)) (sym e)
-          by (inr e) = ap (λ (y : Formula). rightIn fs (shapeUnder w y)) (sym e)
+              → numberIn fs (wrap w (parts .right)) ≡ rightNumber fs (shapeUnder w x)
+          by (inl e) = ap (λ (y : Formula). rightNumber fs (shapeUnder w y)) (sym e)
+          by (inr e) = ap (λ (y : Formula). rightNumber fs (shapeUnder w y)) (sym e)
 
-    pub left-column : leftColumn t cand owners i ≡ leftIn fs (shapeOf (numbered fs i))
+    pub left-column : leftColumn t cand owners i ≡ leftNumber fs (shapeOf (numbered fs i))
     unfolding leftColumn noNumber
     left-column =
         rw (owner-node, owner-number, shape-is)
         (⊎-elim
-        (λ (none : ltb (getD t b 0) 2 ≡ true).
-        rw none (sym (no-left fs w x (subst (λ (n : ℕ). n < 2) kind-here (ltb-true (getD t b 0) 2 none)))))
-        (λ (two : ltb (getD t b 0) 2 ≡ false).
-        let some = ltb-false (getD t b 0) 2 two in
+        (λ (none : ltb (nodeCell t nodeKind b) 2 ≡ true).
+        rw none (sym (no-left fs w x (subst (λ (n : ℕ). n < 2) kind-here (ltb-true (nodeCell t nodeKind b) 2 none)))))
+        (λ (two : ltb (nodeCell t nodeKind b) 2 ≡ false).
+        let some = ltb-false (nodeCell t nodeKind b) 2 two in
         rw two (left-number some ∙ left-shown some))
-        (decided (ltb (getD t b 0) 2)))
+        (decided (ltb (nodeCell t nodeKind b) 2)))
 
-    pub right-column : rightColumn t cand owners i ≡ rightIn fs (shapeOf (numbered fs i))
+    pub right-column : rightColumn t cand owners i ≡ rightNumber fs (shapeOf (numbered fs i))
     unfolding rightColumn noNumber
     right-column =
         rw (owner-node, owner-number, shape-is)
         (⊎-elim
-        (λ (none : ltb (getD t b 0) 2 ≡ true).
-        rw none (sym (no-right fs w x (subst (λ (n : ℕ). n < 2) kind-here (ltb-true (getD t b 0) 2 none)))))
-        (λ (two : ltb (getD t b 0) 2 ≡ false).
-        let some = ltb-false (getD t b 0) 2 two in
+        (λ (none : ltb (nodeCell t nodeKind b) 2 ≡ true).
+        rw none (sym (no-right fs w x (subst (λ (n : ℕ). n < 2) kind-here (ltb-true (nodeCell t nodeKind b) 2 none)))))
+        (λ (two : ltb (nodeCell t nodeKind b) 2 ≡ false).
+        let some = ltb-false (nodeCell t nodeKind b) 2 two in
         rw two (right-number-is some ∙ right-shown some))
-        (decided (ltb (getD t b 0) 2)))
+        (decided (ltb (nodeCell t nodeKind b) 2)))
 
     -- the form with put at every place
     last-form : formAt row b (weakerCount (nodeAt row b .pre) - 1) ≡ bottomOf (numbered fs i)
@@ -235,3 +236,7 @@ module _ (file t : List ℕ) (held : NodesHeld file t) (fs : List Formula) (cand
 
     pub bottom-listed : isListed (bottomOf (numbered fs i)) fs ≡ true
     bottom-listed = subst (λ (z : Formula). isListed z fs ≡ true) last-form (last-placed .listed)
+
+    pub base-column : baseColumn owners i ≡ baseIn row (numbered fs i)
+    unfolding baseColumn
+    base-column = owner-node ∙ sym (base-is row b l (o .form) (numbered fs i) (o .formula) (o .first))

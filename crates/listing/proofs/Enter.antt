@@ -4,7 +4,7 @@ use Prim.Native.Nat.{ℕ, _+_, _*_, _≤_, _<_}
 use native.Mathlib.Omega.{arith}
 use mathlib.Core.Path.{_≡_, refl, sym, _∙_, ap, ap₂, subst}
 use mathlib.Core.Logic.{_⊎_, inl, inr, ⊎-elim}
-use mathlib.Core.Bool.{true, false, cond}
+use mathlib.Core.Bool.{true, false, cond, true≢false}
 use mathlib.Core.List.{List, [], _∷_, _++_}
 use lib.ListN.{length, getD, set, take, length-append, List·getD-append}
 use lib.Seq.{getD-set-same, getD-set-other, getD-at}
@@ -13,16 +13,17 @@ use borrow.Author.Tests.{lt-ltb, le-ltb, ltb-true, ltb-false}
 use Rattle.infon.specs.Formula.{Formula, True, same}
 use Rattle.infon.specs.Listing.{isListed, enlist}
 use Rattle.infon.specs.Rules.{numbered}
-use Rattle.infon.proofs.Rows.{decided}
-use Rattle.table.specs.Table.{numberIn}
-use Rattle.table.proofs.Numbers.{numberIn-below}
-use Rattle.table.proofs.Growing.{numberIn-unlisted, numberIn-append, numberIn-last, listed-append, listed-last}
+use Rattle.infon.proofs.Rows.{decided, not-true-false}
+use Rattle.formulas.specs.Table.{numberIn}
+use Rattle.formulas.proofs.Numbers.{numberIn-below}
+use Rattle.formulas.proofs.Growing.{numberIn-unlisted, numberIn-append, numberIn-last, listed-append, listed-last}
 use Rattle.nodes.specs.Nodes.{Node, nodeAt, countNodes}
 use Rattle.prefix.specs.Weaker.{formAt}
 use Rattle.prefix.proofs.Chosen.{weaker-count-bound}
 use Rattle.columns.specs.Columns.{stride}
-use Rattle.listing.specs.Forms.{placeIn, keyAt, Form, Owned, Placed, Entered}
+use Rattle.listing.specs.Forms.{ownForms, placeIn, keyAt, Form, Owned, Placed, Entered}
 use Rattle.listing.proofs.Keys.{key-same, found-number}
+use Rattle.listing.proofs.Bases.{own-form}
 
 owned-still : (row : List Node) (fs more : List Formula) (keys keys' owners owners' : List ℕ) (k : ℕ) → Owned row fs keys owners k
     → numbered more k ≡ numbered fs k → getD keys' k 0 ≡ getD keys k 0 → getD owners' k 0 ≡ getD owners k 0 → Owned row more keys' owners' k
@@ -34,6 +35,7 @@ owned-still row fs more keys keys' owners owners' k o same-formula same-key same
       owner = same-owner ∙ o .owner;
       key = same-key ∙ o .key;
       formula = same-formula ∙ o .formula;
+      first = λ a h. ap (λ (x : Formula). isListed x (ownForms (nodeAt row a))) same-formula ∙ o .first a h;
     }
 
 last-numbered : (fs : List Formula) (x : Formula) (n : ℕ) → n ≡ length fs → numbered (fs ++ (x ∷ [])) n ≡ x
@@ -45,7 +47,7 @@ unfolding numbered
 still-numbered fs more k h = List·getD-append fs more True k h
 
 module _ (row : List Node) (shallow : (i : ℕ) → i < countNodes row → length (nodeAt row i .pre) ≤ 4) where
-  pub form-few : (b l : ℕ) → Form row b l → l < 16
+  pub form-few : (b l : ℕ) → Form row b l → l < stride
   form-few b l form = omega (arith, form .less, weaker-count-bound (nodeAt row b .pre) (shallow b (form .below)))
 
   module _ (i m : ℕ) (fs : List Formula) (cand keys owners : List ℕ) (n : ℕ) (so : Entered row i m fs cand keys owners n)
@@ -118,8 +120,17 @@ module _ (row : List Node) (shallow : (i : ℕ) → i < countNodes row → lengt
           placed = placed-now fs listed at-number (λ b l other done. kept fs b l other done (λ h. h) (λ h. refl));
         }
 
-    owned-new : Owned row (fs ++ (x ∷ [])) (set keys n key) (set owners n place) n
-    owned-new =
+    -- a formula that is not listed yet is a form of no earlier node
+    not-earlier : isListed x fs ≡ false → (a : ℕ) → a < i → isListed x (ownForms (nodeAt row a)) ≡ false
+    not-earlier unlisted a less =
+        not-true-false (isListed x (ownForms (nodeAt row a)))
+        (λ h.
+        let own = own-form row a x (omega (arith, form .below)) h in
+        let listed = so .placed a (own .0) (own .1 .0) (inl less) .listed in
+        true≢false (sym listed ∙ (ap (λ (z : Formula). isListed z fs) (sym (own .1 .1)) ∙ unlisted)))
+
+    owned-new : isListed x fs ≡ false → Owned row (fs ++ (x ∷ [])) (set keys n key) (set owners n place) n
+    owned-new unlisted =
         record {
           node = i;
           number = m;
@@ -127,6 +138,7 @@ module _ (row : List Node) (shallow : (i : ℕ) → i < countNodes row → lengt
           owner = getD-set-same owners n place 0 room-too;
           key = getD-set-same keys n key 0 room ∙ key-is;
           formula = last-numbered fs x n (so .count);
+          first = λ a h. ap (λ (z : Formula). isListed z (ownForms (nodeAt row a))) (last-numbered fs x n (so .count)) ∙ not-earlier unlisted a h;
         }
 
     -- the formula is new
@@ -143,7 +155,7 @@ module _ (row : List Node) (shallow : (i : ℕ) → i < countNodes row → lengt
               (getD-set-other owners n k place 0 (untouched k below)))
               (λ (more : ltb k n ≡ false).
               let e : k ≡ n = omega (arith, ltb-false k n more) in
-              subst (Owned row (fs ++ (x ∷ [])) (set keys n key) (set owners n place)) (sym e) owned-new)
+              subst (Owned row (fs ++ (x ∷ [])) (set keys n key) (set owners n place)) (sym e) (owned-new unlisted))
               (decided (ltb k n));
           placed =
               placed-now (fs ++ (x ∷ [])) (listed-last fs x)

@@ -14,13 +14,13 @@ use Rattle.infon.specs.Listing.{Prefix, wrap}
 use Rattle.infon.specs.Rules.{prefixUnder, coreOf, numbered}
 use Rattle.infon.proofs.Same.{same-refl, same-eq}
 use Rattle.infon.proofs.Prefixes.{prefix-wrap, core-wrap}
-use Rattle.table.specs.Table.{numberIn, putMask, allPut}
-use Rattle.table.proofs.Numbers.{same-test}
+use Rattle.formulas.specs.Table.{numberIn, putMask, allPut}
+use Rattle.formulas.proofs.Numbers.{same-test}
 use Rattle.nodes.specs.Nodes.{Node, nodeAt, countNodes}
 use Rattle.prefix.specs.Weaker.{choose, isBase, formAt}
 use Rattle.prefix.proofs.Chosen.{choose-bottom, choose-length, same-prefix, mask-bound}
-use Rattle.kin.specs.Kin.{kinOf}
-use Rattle.kin.proofs.Same.{akin-eq, eq-akin, same-kin, kin-same}
+use Rattle.twins.specs.Twins.{twinOf}
+use Rattle.twins.proofs.Same.{twins-eq, eq-twins, same-twin, twin-same}
 use Rattle.columns.specs.Columns.{stride}
 use Rattle.listing.specs.Forms.{placeIn, keyAt, Form}
 
@@ -65,11 +65,11 @@ module _ (row : List Node) (shallow : (i : ℕ) → i < countNodes row → lengt
   key-formula : keyAt row b l ≡ keyAt row c m → formAt row b l ≡ formAt row c m
   unfolding keyAt formAt
   key-formula e =
-      let kin : kinOf row b ≡ kinOf row c = omega (arith, mask-v, mask-w) in
+      let twin : twinOf row b ≡ twinOf row c = omega (arith, mask-v, mask-w) in
       let mask : putMask v ≡ putMask w = omega (arith, mask-v, mask-w) in
-      let akin = akin-eq (nodeAt row b) (nodeAt row c) (same-kin row b c kin) in
-      let bottoms : allPut v ≡ allPut w = choose-bottom (nodeAt row b .pre) l ∙ akin .1 ∙ sym (choose-bottom (nodeAt row c .pre) m) in
-      ap₂ wrap (same-prefix v w bottoms mask) (akin .0)
+      let twins = twins-eq (nodeAt row b) (nodeAt row c) (same-twin row b c twin) in
+      let bottoms : allPut v ≡ allPut w = choose-bottom (nodeAt row b .pre) l ∙ twins .1 ∙ sym (choose-bottom (nodeAt row c .pre) m) in
+      ap₂ wrap (same-prefix v w bottoms mask) (twins .0)
 
   formula-key : formAt row b l ≡ formAt row c m → keyAt row b l ≡ keyAt row c m
   unfolding keyAt formAt
@@ -80,7 +80,7 @@ module _ (row : List Node) (shallow : (i : ℕ) → i < countNodes row → lengt
       sym (wrapped-prefix v (nodeAt row b .what) (first .base)) ∙ ap (prefixUnder []) e ∙ wrapped-prefix w (nodeAt row c .what) (second .base) in
       let bottoms : allPut (nodeAt row b .pre) ≡ allPut (nodeAt row c .pre) =
       sym (choose-bottom (nodeAt row b .pre) l) ∙ ap allPut prefixes ∙ choose-bottom (nodeAt row c .pre) m in
-      ap₂ (λ (k n : ℕ). k * stride + n) (kin-same row b c (eq-akin (nodeAt row b) (nodeAt row c) what bottoms)) (ap putMask prefixes)
+      ap₂ (λ (k n : ℕ). k * stride + n) (twin-same row b c (eq-twins (nodeAt row b) (nodeAt row c) what bottoms)) (ap putMask prefixes)
 
   pub key-same : eqb (keyAt row b l) (keyAt row c m) ≡ same (formAt row b l) (formAt row c m)
   key-same =

@@ -1,5 +1,6 @@
 pub mod Asked
 pub mod Keys
+pub mod Bases
 pub mod Enter
 pub mod Search
 pub mod Nodewise

@@ -1,11 +1,12 @@
 -- The lines one by one: hypotheses are marked, queries are numbered.
 -- Assumes nothing.
 use Prim.Native.Nat.{ℕ, suc, _+_, _*_, _≤_, _<_}
+use Prim.Native.Char.{code}
 use native.Mathlib.Numerals.{add-one}
 use native.Mathlib.Omega.{arith}
 use mathlib.Core.Path.{_≡_, refl, sym, _∙_, ap, subst}
-use mathlib.Core.Logic.{_⊎_, inl, inr, ⊎-elim}
-use mathlib.Core.Bool.{Bool, true, false, _||_}
+use mathlib.Core.Logic.{⊎-elim}
+use mathlib.Core.Bool.{Bool, true, false, cond, _||_}
 use mathlib.Core.List.{List, [], _∷_, _++_, map, append-assoc, append-nil}
 use lib.ListN.{length, getD, set, drop, length-set, length-append, length-map, length-drop}
 use lib.Seq.{getD-set-same, getD-set-other, set-getD, drop-cons, set-at}
@@ -19,13 +20,14 @@ use Rattle.infon.specs.Rules.{numbered}
 use Rattle.infon.specs.Run.{written}
 use Rattle.infon.proofs.Rows.{decided}
 use Rattle.infon.proofs.Listed.{numbered-injective}
-use Rattle.nodes.specs.Nodes.{nodeAt, countNodes, nodesOf}
+use Rattle.nodes.specs.Nodes.{nodeAt, countNodes, nodesOf, nodeRows, nodeEnd, nodeLine, nodeCell}
 use Rattle.nodes.proofs.Order.{nodes-positive}
-use Rattle.table.specs.Table.{numberIn, flag}
-use Rattle.table.proofs.Numbers.{numberIn-below, numbered-numberIn, same-number}
-use Rattle.table.proofs.Growing.{listed-last}
+use Rattle.formulas.specs.Table.{numberIn, flag, tableRows, tableCells, cell, withCell}
+use Rattle.formulas.specs.Tests.{hypothesisAt}
+use Rattle.formulas.proofs.Numbers.{numberIn-below, numbered-numberIn, same-number}
+use Rattle.formulas.proofs.Growing.{listed-last}
 use Rattle.prefix.proofs.Shown.{count-few, end-cell, line-cell}
-use Rattle.columns.specs.Columns.{numberAt, IsForm}
+use Rattle.columns.specs.Columns.{formNumber, IsForm}
 use Rattle.listing.specs.Lines.{LinesReady, markedBy, askedBy, askedIn, Clear, HypothesesMarked, QueriesNumbered}
 use Rattle.listing.proofs.Cells.{number-form, form-listed}
 use Rattle.listing.proofs.Letters.{letterByte, LinesAhead, all-ahead, NextLine, next-line, none-ahead, line-form, line-weaker}
@@ -48,7 +50,7 @@ module _ (file t : List ℕ) (count : ℕ) (cand : List ℕ) (ready : LinesReady
   pub line-is-form : IsForm t r 0
   line-is-form = (file, (ready .held, (line-below, line-weaker file r es this)))
 
-  pub line-number : numberAt t cand r 0 ≡ numberIn fs x
+  pub line-number : formNumber t cand r 0 ≡ numberIn fs x
   line-number =
       number-form file t (ready .held) fs cand (ready .placed) r 0 line-below (line-weaker file r es this) ∙ ap (numberIn fs) (line-form file r es this)
 
@@ -57,28 +59,28 @@ module _ (file t : List ℕ) (count : ℕ) (cand : List ℕ) (ready : LinesReady
       subst (λ (z : Formula). isListed z fs ≡ true) (line-form file r es this)
       (form-listed file t (ready .held) fs cand (ready .placed) r 0 line-below (line-weaker file r es this))
 
-  pub line-number-few : numberAt t cand r 0 < length fs
+  pub line-number-few : formNumber t cand r 0 < length fs
   line-number-few = rw line-number (numberIn-below fs x line-listed)
 
-  pub line-row : r < 1024
+  pub line-row : r < nodeRows
   line-row = omega (arith, line-below, count-few file t (ready .held))
 
-  pub line-place : getD t (5120 + r) 0 ≡ this .entry .start
+  pub line-place : nodeCell t nodeLine r ≡ this .entry .start
   line-place = line-cell file t (ready .held) r line-below ∙ this .line
 
-  pub line-inside : getD t (5120 + r) 0 < length file
+  pub line-inside : nodeCell t nodeLine r < length file
   line-inside = rw line-place (this .inside)
 
-  pub line-letter : getD file (getD t (5120 + r) 0) 0 ≡ letterByte (this .entry .sentence)
+  pub line-letter : getD file (nodeCell t nodeLine r) 0 ≡ letterByte (this .entry .sentence)
   line-letter = ap (λ (k : ℕ). getD file k 0) line-place ∙ this .letter
 
-  pub line-end : getD t (3072 + r) 0 ≡ r + nodes (nodeAt (nodesOf file) r .what)
+  pub line-end : nodeCell t nodeEnd r ≡ r + nodes (nodeAt (nodesOf file) r .what)
   line-end = end-cell file t (ready .held) r line-below
 
-  pub line-further : r < getD t (3072 + r) 0
+  pub line-further : r < nodeCell t nodeEnd r
   line-further = omega (arith, line-end, nodes-positive (nodeAt (nodesOf file) r .what))
 
-  pub lines-later : LinesAhead file (getD t (3072 + r) 0) (this .rest)
+  pub lines-later : LinesAhead file (nodeCell t nodeEnd r) (this .rest)
   lines-later = rw line-end (this .later)
 
 -- Hypotheses.
@@ -113,8 +115,9 @@ pub record MarksTo (file before table : List ℕ) (r : ℕ) : Type 0 where
   pub whole : hypothesesOf (entriesOf file) ≡ done ++ hypothesesOf es
   pub size : length table ≡ length before
   pub cells : (k : ℕ) → k < length (listOf (entriesOf file))
-      → getD table (20480 + k) 0 ≡ flag (isListed (numbered (listOf (entriesOf file)) k) done)
-  pub others : (j : ℕ) → (j < 20480) ⊎ (20480 + length (listOf (entriesOf file)) ≤ j) → getD table j 0 ≡ getD before j 0
+      → cell table hypothesisAt k ≡ flag (isListed (numbered (listOf (entriesOf file)) k) done)
+  pub others : (k i : ℕ) → i < tableRows → (k ≡ hypothesisAt → length (listOf (entriesOf file)) ≤ i)
+      → cell table k i ≡ cell before k i
 
 pub marks-begin : (file table : List ℕ) → Clear file table → MarksTo file table table 0
 unfolding isListed someOf flag
@@ -126,10 +129,23 @@ marks-begin file table clear =
       whole = refl;
       size = refl;
       cells = clear .zeros;
-      others = λ j h. refl;
+      others = λ k i row behind. refl;
     }
 
-module _ (file t : List ℕ) (count : ℕ) (cand before table : List ℕ) (r : ℕ) (ready : LinesReady file t count cand) (long : 6 * 4096 ≤ length before)
+flag-small : (b : Bool) → flag b ≤ 1
+unfolding flag
+flag-small true = omega arith
+flag-small false = omega arith
+
+marked-small : (letter old : ℕ) → old ≤ 1 → markedBy letter old ≤ 1
+unfolding markedBy
+marked-small letter old h = by (eqb letter (code "H"))
+  where
+    by : (b : Bool) → cond b 1 old ≤ 1
+    by true = omega arith
+    by false = h
+
+module _ (file t : List ℕ) (count : ℕ) (cand before table : List ℕ) (r : ℕ) (ready : LinesReady file t count cand) (long : tableCells ≤ length before)
     (so : MarksTo file before table r) (h : r < count) where
   abbrev gs : List Formula
   gs = listOf (entriesOf file)
@@ -149,31 +165,39 @@ module _ (file t : List ℕ) (count : ℕ) (cand before table : List ℕ) (r : �
   at-few : at < length gs
   at-few = numberIn-below gs z listed
 
-  room : 20480 + at < length table
+  pub mark-room : tableCells ≤ length table
+  mark-room = omega (arith, so .size)
+
+  room : hypothesisAt * tableRows + at < length table
   unfolding mostListed
-  room = omega (arith, at-few, ready .few, so .size)
+  room = omega (arith, at-few, ready .few, mark-room)
 
-  pub mark-room : 20480 + numberAt t cand r 0 < length table
-  mark-room = rw (line-number file t count cand ready r (so .es) (so .ahead) h) room
-
-  pub mark-number : numberAt t cand r 0 < 4096
+  pub mark-number : formNumber t cand r 0 < tableRows
   unfolding mostListed
   mark-number = omega (arith, line-number-few file t count cand ready r (so .es) (so .ahead) h, ready .few)
+
+  -- a mark is 0 or 1, so it fits a cell
+  pub mark-fits : (number letter old new : ℕ) → number ≡ formNumber t cand r 0 → old ≡ cell table hypothesisAt number → new ≡ markedBy letter old
+      → new < 65536
+  mark-fits number letter old new number-is old-is new-is =
+      let few : number < length gs = rw number-is (line-number-few file t count cand ready r (so .es) (so .ahead) h) in
+      let small : old ≤ 1 = rw (old-is, so .cells number few) (flag-small (isListed (numbered gs number) (so .done))) in
+      omega (arith, marked-small letter old small)
 
   once : (i j : ℕ) → i < length gs → j < length gs → numbered gs i ≡ numbered gs j → i ≡ j
   once = numbered-injective (entriesOf file)
 
   -- a line `H`
-  marked-cell : (k : ℕ) → k < length gs → getD (set table (20480 + at) 1) (20480 + k) 0 ≡ flag (isListed (numbered gs k) (so .done ++ (z ∷ [])))
+  marked-cell : (k : ℕ) → k < length gs → cell (withCell table hypothesisAt at 1) hypothesisAt k ≡ flag (isListed (numbered gs k) (so .done ++ (z ∷ [])))
   unfolding flag
   marked-cell k less =
       ⊎-elim
       (λ (here : eqb at k ≡ true).
       let e : k ≡ at = sym (eqb-true at k here) in
-      rw (e, numbered-numberIn gs z listed, listed-last (so .done) z) (getD-set-same table (20480 + at) 1 0 room))
+      rw (e, numbered-numberIn gs z listed, listed-last (so .done) z) (getD-set-same table (hypothesisAt * tableRows + at) 1 0 room))
       (λ (there : eqb at k ≡ false).
       let other : same (numbered gs k) z ≡ false = same-number gs once k z less listed ∙ there in
-      getD-set-other table (20480 + at) (20480 + k) 1 0 (λ e. eqb-false at k there (omega arith)) ∙ so .cells k less
+      getD-set-other table (hypothesisAt * tableRows + at) (hypothesisAt * tableRows + k) 1 0 (λ e. eqb-false at k there (omega arith)) ∙ so .cells k less
       ∙ ap flag (sym (listed-more (numbered gs k) z (so .done) ∙ ap (λ (b : Bool). isListed (numbered gs k) (so .done) || b) other ∙ or-none (isListed (numbered gs k) (so .done)))))
       (decided (eqb at k))
     where
@@ -181,17 +205,21 @@ module _ (file t : List ℕ) (count : ℕ) (cand before table : List ℕ) (r : �
       or-none true = refl
       or-none false = refl
 
-  outside : (v j : ℕ) → (j < 20480) ⊎ (20480 + length gs ≤ j) → getD (set table (20480 + at) v) j 0 ≡ getD before j 0
-  outside v j where-it-is = getD-set-other table (20480 + at) j v 0 (apart where-it-is) ∙ so .others j where-it-is
+  outside : (v k i : ℕ) → i < tableRows → (k ≡ hypothesisAt → length gs ≤ i) → cell (withCell table hypothesisAt at v) k i ≡ cell before k i
+  unfolding mostListed
+  outside v k i row behind =
+      getD-set-other table (hypothesisAt * tableRows + at) (k * tableRows + i) v 0 apart ∙ so .others k i row behind
     where
-      apart : (j < 20480) ⊎ (20480 + length gs ≤ j) → j ≡ 20480 + at → ⊥
-      apart (inl less) e = omega arith
-      apart (inr more) e = omega (arith, at-few)
+      apart : k * tableRows + i ≡ hypothesisAt * tableRows + at → ⊥
+      apart e =
+          let few = ready .few in
+          let same : k ≡ hypothesisAt = omega (arith, at-few) in
+          omega (arith, at-few, behind same)
 
-  later : LinesAhead file (getD t (3072 + r) 0) (line .rest)
+  later : LinesAhead file (nodeCell t nodeEnd r) (line .rest)
   later = lines-later file t count cand ready r (so .es) (so .ahead) h
 
-  after-hypothesis : (y : Formula) → line .entry .sentence ≡ hypothesis y → MarksTo file before (set table (20480 + at) 1) (getD t (3072 + r) 0)
+  after-hypothesis : (y : Formula) → line .entry .sentence ≡ hypothesis y → MarksTo file before (withCell table hypothesisAt at 1) (nodeCell t nodeEnd r)
   unfolding formulaIn
   after-hypothesis y e =
       record {
@@ -204,13 +232,13 @@ module _ (file t : List ℕ) (count : ℕ) (cand before table : List ℕ) (r : �
             (ap hypothesesOf (line .first) ∙ hypotheses-first (line .entry .sentence) (line .entry .start) (line .rest) y e
             ∙ ap (λ (x : Formula). x ∷ hypothesesOf (line .rest)) (sym (ap formulaIn e)))
             ∙ sym (append-assoc (so .done) (z ∷ []) (hypothesesOf (line .rest)));
-        size = length-set table (20480 + at) 1 ∙ so .size;
+        size = length-set table (hypothesisAt * tableRows + at) 1 ∙ so .size;
         cells = marked-cell;
         others = outside 1;
       }
 
   -- a line `Q`
-  after-query : (y : Formula) → line .entry .sentence ≡ query y → MarksTo file before table (getD t (3072 + r) 0)
+  after-query : (y : Formula) → line .entry .sentence ≡ query y → MarksTo file before table (nodeCell t nodeEnd r)
   after-query y e =
       record {
         es = line .rest;
@@ -226,18 +254,19 @@ module _ (file t : List ℕ) (count : ℕ) (cand before table : List ℕ) (r : �
       }
 
   by-sentence : (s : Sentence) → line .entry .sentence ≡ s
-      → MarksTo file before (set table (20480 + at) (markedBy (letterByte s) (getD table (20480 + at) 0))) (getD t (3072 + r) 0)
+      → MarksTo file before (withCell table hypothesisAt at (markedBy (letterByte s) (cell table hypothesisAt at))) (nodeCell t nodeEnd r)
   unfolding markedBy letterByte
   by-sentence (hypothesis y) e = after-hypothesis y e
-  by-sentence (query y) e = rw (set-getD table (20480 + at) 0) (after-query y e)
+  by-sentence (query y) e = rw (set-getD table (hypothesisAt * tableRows + at) 0) (after-query y e)
 
-  pub marks-on : (number letter new : ℕ) → number ≡ numberAt t cand r 0 → letter ≡ getD file (getD t (5120 + r) 0) 0
-      → new ≡ markedBy letter (getD table (20480 + number) 0)
-      → MarksTo file before (set table (20480 + number) new) (getD t (3072 + r) 0)
-  marks-on number letter new number-is letter-is new-is =
+  pub marks-on : (number start old new end : ℕ) (marked : List ℕ) → number ≡ formNumber t cand r 0 → start ≡ nodeCell t nodeLine r
+      → old ≡ cell table hypothesisAt number → new ≡ markedBy (getD file start 0) old → marked ≡ withCell table hypothesisAt number new
+      → end ≡ nodeCell t nodeEnd r → MarksTo file before marked end
+  marks-on number start old new end marked number-is start-is old-is new-is marked-is end-is =
       let e : number ≡ at = number-is ∙ line-number file t count cand ready r (so .es) (so .ahead) h in
-      let f : letter ≡ letterByte (line .entry .sentence) = letter-is ∙ line-letter file t count cand ready r (so .es) (so .ahead) h in
-      rw (new-is, f, e) (by-sentence (line .entry .sentence) refl)
+      let f : getD file start 0 ≡ letterByte (line .entry .sentence) =
+      ap (λ (k : ℕ). getD file k 0) start-is ∙ line-letter file t count cand ready r (so .es) (so .ahead) h in
+      rw (marked-is, new-is, old-is, f, e, end-is) (by-sentence (line .entry .sentence) refl)
 
 pub marks-over : (file before table : List ℕ) (r : ℕ) → MarksTo file before table r → countNodes (nodesOf file) ≤ r → HypothesesMarked file before table
 unfolding hypothesesOf
@@ -299,7 +328,7 @@ asked-size file before queries q r so fits =
       so .count,
     )
 
-module _ (file t : List ℕ) (count : ℕ) (cand before queries : List ℕ) (q r : ℕ) (ready : LinesReady file t count cand) (long : 1024 ≤ length before)
+module _ (file t : List ℕ) (count : ℕ) (cand before queries : List ℕ) (q r : ℕ) (ready : LinesReady file t count cand) (long : nodeRows ≤ length before)
     (so : AskedTo file before queries q r) (h : r < count) where
   abbrev hs : List Formula
   hs = listOf (entriesOf file)
@@ -316,10 +345,10 @@ module _ (file t : List ℕ) (count : ℕ) (cand before queries : List ℕ) (q r
   pub ask-room : q < length queries
   ask-room = rw (asked-size file before queries q r so (omega (arith, q-few))) q-few
 
-  afterwards : LinesAhead file (getD t (3072 + r) 0) (here .rest)
+  afterwards : LinesAhead file (nodeCell t nodeEnd r) (here .rest)
   afterwards = lines-later file t count cand ready r (so .es) (so .ahead) h
 
-  further : r < getD t (3072 + r) 0
+  further : r < nodeCell t nodeEnd r
   further = line-further file t count cand ready r (so .es) (so .ahead) h
 
   -- a line `Q`
@@ -332,7 +361,7 @@ module _ (file t : List ℕ) (count : ℕ) (cand before queries : List ℕ) (q r
       (ap (λ (s : List ℕ). s ++ drop (q + 1) before) (map-more f (so .done) y) ∙ append-assoc (map f (so .done)) (f y ∷ []) (drop (q + 1) before)
       ∙ ap (λ (n : ℕ). map f (so .done) ++ (f y ∷ drop n before)) (add-one q))
 
-  after-asked : (x : Formula) → here .entry .sentence ≡ query x → AskedTo file before (set queries q (numberIn hs y)) (q + 1) (getD t (3072 + r) 0)
+  after-asked : (x : Formula) → here .entry .sentence ≡ query x → AskedTo file before (set queries q (numberIn hs y)) (q + 1) (nodeCell t nodeEnd r)
   unfolding formulaIn
   after-asked x e =
       record {
@@ -350,7 +379,7 @@ module _ (file t : List ℕ) (count : ℕ) (cand before queries : List ℕ) (q r
         numbers = written-more;
       }
 
-  after-passed : (x : Formula) → here .entry .sentence ≡ hypothesis x → AskedTo file before queries q (getD t (3072 + r) 0)
+  after-passed : (x : Formula) → here .entry .sentence ≡ hypothesis x → AskedTo file before queries q (nodeCell t nodeEnd r)
   after-passed x e =
       record {
         es = here .rest;
@@ -366,17 +395,19 @@ module _ (file t : List ℕ) (count : ℕ) (cand before queries : List ℕ) (q r
       }
 
   by-letter : (s : Sentence) → here .entry .sentence ≡ s
-      → AskedTo file before (askedIn (letterByte s) (numberIn hs y) q queries) (askedBy (letterByte s) q) (getD t (3072 + r) 0)
+      → AskedTo file before (askedIn (letterByte s) (numberIn hs y) q queries) (askedBy (letterByte s) q) (nodeCell t nodeEnd r)
   unfolding askedIn askedBy letterByte
   by-letter (hypothesis x) e = after-passed x e
   by-letter (query x) e = after-asked x e
 
-  pub asked-on : (number letter next : ℕ) (queries' : List ℕ) → number ≡ numberAt t cand r 0 → letter ≡ getD file (getD t (5120 + r) 0) 0
-      → next ≡ askedBy letter q → queries' ≡ askedIn letter number q queries → AskedTo file before queries' next (getD t (3072 + r) 0)
-  asked-on number letter next queries' number-is letter-is next-is queries-are =
+  pub asked-on : (number start next end : ℕ) (queries' : List ℕ) → number ≡ formNumber t cand r 0 → start ≡ nodeCell t nodeLine r
+      → next ≡ askedBy (getD file start 0) q → queries' ≡ askedIn (getD file start 0) number q queries → end ≡ nodeCell t nodeEnd r
+      → AskedTo file before queries' next end
+  asked-on number start next end queries' number-is start-is next-is queries-are end-is =
       let e : number ≡ numberIn hs y = number-is ∙ line-number file t count cand ready r (so .es) (so .ahead) h in
-      let f : letter ≡ letterByte (here .entry .sentence) = letter-is ∙ line-letter file t count cand ready r (so .es) (so .ahead) h in
-      rw (next-is, queries-are, f, e) (by-letter (here .entry .sentence) refl)
+      let f : getD file start 0 ≡ letterByte (here .entry .sentence) =
+      ap (λ (k : ℕ). getD file k 0) start-is ∙ line-letter file t count cand ready r (so .es) (so .ahead) h in
+      rw (next-is, queries-are, f, e, end-is) (by-letter (here .entry .sentence) refl)
 
 pub asked-over : (file before queries : List ℕ) (q r : ℕ) → AskedTo file before queries q r → countNodes (nodesOf file) ≤ r
     → QueriesNumbered file before queries q

@@ -7,26 +7,25 @@ use mathlib.Core.Path.{_≡_, refl, sym, _∙_, ap, subst}
 use mathlib.Core.Logic.{_⊎_, inl, inr, ⊎-elim}
 use mathlib.Core.Bool.{true, false, true≢false}
 use mathlib.Core.List.{List}
-use lib.ListN.{length, getD}
+use lib.ListN.{length}
 use lib.Dec.{ltb}
 use borrow.Author.Tests.{ltb-true, ltb-false}
 use Rattle.infon.specs.Formula.{Formula}
-use Rattle.infon.specs.Policy.{entriesOf, Verdict, passed, refused}
+use Rattle.infon.specs.declared.Verdict.the-variants.{Passed, Refused}
+use Rattle.infon.specs.Policy.{entriesOf}
 use Rattle.infon.specs.Listing.{weakened, enlist, listOf, mostListed, code5}
 use Rattle.infon.proofs.Rows.{decided}
-use Rattle.nodes.specs.Nodes.{Node, after, nodeAt, roots, countNodes, nodesOf}
+use Rattle.nodes.specs.Nodes.{Node, after, nodeAt, roots, countNodes, nodesOf, kindOf, nodeRows, nodeKind, nodeLine, nodeCell, NodesHeld}
 use Rattle.prefix.specs.declared.Prefix.{Prefix}
 use Rattle.prefix.specs.Places.{used, prefixAt, weakerCountOf}
 use Rattle.prefix.specs.Weaker.{weakerCount, isBase}
-use Rattle.prefix.specs.Held.{NodesHeld}
 use Rattle.prefix.proofs.Chosen.{weaker-count-bound}
 use Rattle.prefix.proofs.Shown.{kind-cell, line-cell, count-few, pre-few, prefix-sized, node-weaker, node-puts}
 use Rattle.prefix.proofs.Inside.{base-kind, quoted-kind}
-use Rattle.kin.specs.Kin.{kinOf}
-use Rattle.kin.proofs.Same.{kin-most}
-use Rattle.listing.specs.declared.Counted.the-variants.{Formulas, Over}
-use Rattle.listing.specs.Forms.{ownForms, listedTo, Form, Entered, BaseOf, Ready}
-use Rattle.listing.specs.Whole.{Worked, NodeReady, countedOf, NodesListed}
+use Rattle.twins.specs.Twins.{twinOf}
+use Rattle.twins.proofs.Same.{twin-most}
+use Rattle.listing.specs.Forms.{ownForms, listedTo, Form, Entered, BaseOf, FormsReady}
+use Rattle.listing.specs.Whole.{Worked, NodeReady, countedBy, NodesListed}
 use Rattle.listing.proofs.Asked.{listed-all, code5Of, code5-begins, code5-turn, code5-over, code5-end}
 
 -- A form done behind node i is one of node i or of an earlier one.
@@ -60,26 +59,29 @@ module _ (row : List Node) (i : ℕ) where
   quotation-listed no-base = rw no-base
 
 -- One node.
-module _ (file t : List ℕ) (i : ℕ) (cand keys owners : List ℕ) (n : ℕ) (ready : NodeReady file t i cand keys owners n) where
+module _ (file t : List ℕ) (i : ℕ) (cand keys owners : List ℕ) (n : ℕ) (ready : NodeReady file t i cand keys owners n) (kind : ℕ)
+    (read : kind ≡ nodeCell t nodeKind i) where
   abbrev row : List Node
   row = nodesOf file
 
-  pub quotation-passed : 4 ≤ getD t i 0 → Entered row (i + 1) 0 (listedTo row (suc i)) cand keys owners n
+  kind-is : kind ≡ kindOf (nodeAt row i .what)
+  kind-is = read ∙ kind-cell file t (ready .held) i (ready .below)
+
+  pub quotation-passed : 4 ≤ kind → Entered row (i + 1) 0 (listedTo row (suc i)) cand keys owners n
   quotation-passed h =
-      let kind = kind-cell file t (ready .held) i (ready .below) in
-      let no-base = quoted-kind (nodeAt row i .what) (subst (λ (k : ℕ). 4 ≤ k) kind h) in
+      let no-base = quoted-kind (nodeAt row i .what) (subst (λ (k : ℕ). 4 ≤ k) kind-is h) in
       subst (λ (fs : List Formula). Entered row (i + 1) 0 fs cand keys owners n) (quotation-listed row i no-base)
       (next-node row i 0 (listedTo row i) cand keys owners n (ready .so-far)
       (λ l form. absurd (true≢false (sym (form .base) ∙ no-base))))
 
-  module _ (h : getD t i 0 < 4) (kin : ℕ) (p : Prefix) (kin-is : kin ≡ kinOf row i) (p-is : p ≡ prefixAt t i) where
+  module _ (h : kind < 4) (twin : ℕ) (p : Prefix) (twin-is : twin ≡ twinOf row i) (p-is : p ≡ prefixAt t i) where
     base-here : isBase (nodeAt row i .what) ≡ true
-    base-here = base-kind (nodeAt row i .what) (subst (λ (k : ℕ). k < 4) (kind-cell file t (ready .held) i (ready .below)) h)
+    base-here = base-kind (nodeAt row i .what) (subst (λ (k : ℕ). k < 4) kind-is h)
 
     weaker-here : weakerCountOf (used p) ≡ weakerCount (nodeAt row i .pre)
     weaker-here = ap (λ (q : Prefix). weakerCountOf (used q)) p-is ∙ node-weaker file t (ready .held) i (ready .below)
 
-    pub base-of : BaseOf row p kin i
+    pub base-of : BaseOf row p twin i
     base-of =
         record {
           shallow = pre-few file t (ready .held);
@@ -87,16 +89,16 @@ module _ (file t : List ℕ) (i : ℕ) (cand keys owners : List ℕ) (n : ℕ) (
           is-base = base-here;
           weaker-are = weaker-here;
           puts-are = λ m. rw p-is (node-puts file t (ready .held) i (ready .below) m);
-          kin-is = kin-is;
+          twin-is = twin-is;
         }
 
-    pub forms-ready : Ready p kin i cand keys owners n
+    pub forms-ready : FormsReady p twin i cand keys owners n
     forms-ready =
-        let below : i < 1024 = omega (arith, ready .below, count-few file t (ready .held)) in
+        let below : i < nodeRows = omega (arith, ready .below, count-few file t (ready .held)) in
         record {
           sized = rw p-is (prefix-sized file t (ready .held) i (ready .below));
           few-weaker = rw weaker-here (weaker-count-bound (nodeAt row i .pre) (pre-few file t (ready .held) i (ready .below)));
-          kin-few = omega (arith, kin-is, kin-most row i);
+          twin-few = omega (arith, twin-is, twin-most row i);
           base-few = below;
           count-few = ready .few;
           cand-long = ready .work .cand-long;
@@ -176,33 +178,34 @@ module _ (file t cand₀ keys₀ owners₀ cand keys owners : List ℕ) (n i : �
           code = rw (add-one i) (code5-turn (entriesOf file) i h (subst (λ (k : ℕ). k ≤ mostListed) (next .count) few) (so .code));
         }
 
-    over-code : 4096 < r → code5 (entriesOf file) ≡ refused 5 (nodeAt (nodesOf file) i .line)
+    over-code : 4096 < r → code5 (entriesOf file) ≡ Refused 5 (nodeAt (nodesOf file) i .line)
     unfolding nodesOf mostListed
     over-code over =
         code5-over (entriesOf file) i h (subst (λ (k : ℕ). k ≤ 4096) (so .tables .count) (so .few)) (subst (λ (k : ℕ). 4096 < k) (next .count) over) (so .code)
 
-    pub nodes-over : 4096 < r → (cand'' keys'' owners'' : List ℕ) → NodesListed file (Over (getD t (5120 + i) 0)) cand'' keys'' owners''
-    unfolding countedOf
-    nodes-over over cand'' keys'' owners'' =
+    pub nodes-over : 4096 < r → (place : ℕ) → place ≡ nodeCell t nodeLine i → (cand'' keys'' owners'' : List ℕ)
+        → NodesListed file (record { verdict = Refused 5 place; formulas = 0 }) cand'' keys'' owners''
+    unfolding countedBy
+    nodes-over over place place-is cand'' keys'' owners'' =
         let code = over-code over in
         record {
-          answer = ap Over (line-cell file t held i h) ∙ ap (λ (v : Verdict). countedOf v (length (listOf (entriesOf file)))) (sym code);
+          answer = rw code (ap (λ (p : ℕ). record { verdict = Refused 5 p; formulas = 0 }) (place-is ∙ line-cell file t held i h));
           tables = λ fine. absurd (let z : _≡_ {A = ℕ} 0 1 = cc (fine, code) in omega arith);
         }
 
 pub nodes-all : (file cand₀ keys₀ owners₀ cand keys owners : List ℕ) (n i : ℕ) → NodesTo file cand₀ keys₀ owners₀ cand keys owners n i
-    → countNodes (nodesOf file) ≤ i → NodesListed file (Formulas n) cand keys owners
-unfolding nodesOf countedOf
+    → countNodes (nodesOf file) ≤ i → NodesListed file (record { verdict = Passed; formulas = n }) cand keys owners
+unfolding nodesOf countedBy
 nodes-all file cand₀ keys₀ owners₀ cand keys owners n i so h =
     let entries = entriesOf file in
     let row = roots entries in
     let e : i ≡ countNodes row = omega (arith, so .so-far) in
     let whole : listedTo row i ≡ listOf entries = ap (listedTo row) e ∙ listed-all entries in
-    let code : code5 entries ≡ passed =
+    let code : code5 entries ≡ Passed =
     code5-end entries (subst (λ (k : ℕ). code5 entries ≡ code5Of (listedTo row k) (after 0 k row)) e (so .code)) in
     let count : n ≡ length (listOf entries) = so .tables .count ∙ ap length whole in
     record {
-      answer = ap Formulas count ∙ ap (λ (v : Verdict). countedOf v (length (listOf entries))) (sym code);
+      answer = rw code (ap (λ (k : ℕ). record { verdict = Passed; formulas = k }) count);
       tables = λ fine.
           subst (λ (k : ℕ). Entered row (countNodes row) 0 (listOf entries) cand keys owners k) count
           (subst (λ (fs : List Formula). Entered row (countNodes row) 0 fs cand keys owners n) whole

@@ -22,7 +22,7 @@ use Rattle.prefix.proofs.Loops.{puts-few}
 use Rattle.prefix.proofs.Shown.{weaker-sized}
 use Rattle.prefix.proofs.Chosen.{weakened-count, weakened-at}
 use Rattle.columns.specs.Columns.{stride}
-use Rattle.listing.specs.Forms.{placeIn, keyAt, Form, Entered, BaseOf, Ready}
+use Rattle.listing.specs.Forms.{placeIn, keyAt, Form, Entered, BaseOf, FormsReady}
 use Rattle.listing.proofs.Enter.{entered}
 
 -- The place of a key: so far not found, it is as far behind as it is among the rest.
@@ -72,20 +72,20 @@ module _ (keys : List ℕ) (n key : ℕ) where
 
 -- The forms of a base, the first m of them done.
 abbrev pub FormsTo : Prefix → ℕ → ℕ → List ℕ → List ℕ → List ℕ → ℕ → ℕ → List ℕ → List ℕ → List ℕ → ℕ → Type 0
-FormsTo p kin base cand₀ keys₀ owners₀ count m cand keys owners n =
-    (row : List Node) (fs : List Formula) → BaseOf row p kin base → Entered row base 0 fs cand₀ keys₀ owners₀ count
+FormsTo p twin base cand₀ keys₀ owners₀ count m cand keys owners n =
+    (row : List Node) (fs : List Formula) → BaseOf row p twin base → Entered row base 0 fs cand₀ keys₀ owners₀ count
     → Entered row base m (enlist fs (take m (weakened (nodeAt row base .pre) (nodeAt row base .what)))) cand keys owners n
 
-pub forms-begin : (p : Prefix) (kin base : ℕ) (cand keys owners : List ℕ) (count : ℕ)
-    → FormsTo p kin base cand keys owners count 0 cand keys owners count
+pub forms-begin : (p : Prefix) (twin base : ℕ) (cand keys owners : List ℕ) (count : ℕ)
+    → FormsTo p twin base cand keys owners count 0 cand keys owners count
 unfolding enlist
-forms-begin p kin base cand keys owners count row fs of so = so
+forms-begin p twin base cand keys owners count row fs of so = so
 
-module _ (p : Prefix) (kin base : ℕ) (cand₀ keys₀ owners₀ : List ℕ) (count m : ℕ) (cand keys owners : List ℕ) (n : ℕ)
-    (so : FormsTo p kin base cand₀ keys₀ owners₀ count m cand keys owners n) where
-  pub forms-turn : (key at : ℕ) → m < weakerCountOf (used p) → key ≡ kin * stride + putsOf (used (weakerAt p m)) → at ≡ placeIn key (take n keys)
+module _ (p : Prefix) (twin base : ℕ) (cand₀ keys₀ owners₀ : List ℕ) (count m : ℕ) (cand keys owners : List ℕ) (n : ℕ)
+    (so : FormsTo p twin base cand₀ keys₀ owners₀ count m cand keys owners n) where
+  pub forms-turn : (key at : ℕ) → m < weakerCountOf (used p) → key ≡ twin * stride + putsOf (used (weakerAt p m)) → at ≡ placeIn key (take n keys)
       → n < length keys → n < length owners → base * stride + m < length cand
-      → FormsTo p kin base cand₀ keys₀ owners₀ count (m + 1) (set cand (base * stride + m) at) (set keys n key) (set owners n (base * stride + m))
+      → FormsTo p twin base cand₀ keys₀ owners₀ count (m + 1) (set cand (base * stride + m) at) (set keys n key) (set owners n (base * stride + m))
       (cond (ltb at n) n (n + 1))
   unfolding keyAt formAt
   forms-turn key at h key-is found room room-too inside row fs of start =
@@ -93,7 +93,7 @@ module _ (p : Prefix) (kin base : ℕ) (cand₀ keys₀ owners₀ : List ℕ) (c
       let what = nodeAt row base .what in
       let less : m < weakerCount pre = subst (λ (k : ℕ). m < k) (of .weaker-are) h in
       let form : Form row base m = record { below = of .below; base = of .is-base; less = less } in
-      let key-at : key ≡ keyAt row base m = key-is ∙ ap₂ (λ (a b : ℕ). a * stride + b) (of .kin-is) (of .puts-are m) in
+      let key-at : key ≡ keyAt row base m = key-is ∙ ap₂ (λ (a b : ℕ). a * stride + b) (of .twin-is) (of .puts-are m) in
       let xs = weakened pre what in
       let more : enlist (enlist fs (take m xs)) (formAt row base m ∷ []) ≡ enlist fs (take (m + 1) xs) =
       ap (λ (z : Formula). enlist (enlist fs (take m xs)) (z ∷ [])) (sym (weakened-at pre what m less))
@@ -105,7 +105,7 @@ module _ (p : Prefix) (kin base : ℕ) (cand₀ keys₀ owners₀ : List ℕ) (c
       more
       (entered row (of .shallow) base m (enlist fs (take m xs)) cand keys owners n (so row fs of start) form key at key-at found room room-too inside)
 
-  pub forms-over : weakerCountOf (used p) ≤ m → m ≤ weakerCountOf (used p) → (row : List Node) (fs : List Formula) → BaseOf row p kin base
+  pub forms-over : weakerCountOf (used p) ≤ m → m ≤ weakerCountOf (used p) → (row : List Node) (fs : List Formula) → BaseOf row p twin base
       → Entered row base 0 fs cand₀ keys₀ owners₀ count
       → Entered row base (weakerCount (nodeAt row base .pre)) (enlist fs (weakened (nodeAt row base .pre) (nodeAt row base .what))) cand keys owners n
   forms-over low high row fs of start =
@@ -117,24 +117,24 @@ module _ (p : Prefix) (kin base : ℕ) (cand₀ keys₀ owners₀ : List ℕ) (c
       (take-all m (weakened pre what) (omega (arith, weakened-count pre what))) (so row fs of start))
 
 -- The loop over the forms: its sizes, and what is listed.
-pub record Turning (p : Prefix) (kin base : ℕ) (cand₀ keys₀ owners₀ : List ℕ) (count all : ℕ) (cand keys owners : List ℕ) (n m : ℕ) : Type 0 where
+pub record Turning (p : Prefix) (twin base : ℕ) (cand₀ keys₀ owners₀ : List ℕ) (count all : ℕ) (cand keys owners : List ℕ) (n m : ℕ) : Type 0 where
   pub so-far : m ≤ all
   pub few : n ≤ count + m
   pub cand-size : length cand ≡ length cand₀
   pub keys-size : length keys ≡ length keys₀
   pub owners-size : length owners ≡ length owners₀
-  pub forms : FormsTo p kin base cand₀ keys₀ owners₀ count m cand keys owners n
+  pub forms : FormsTo p twin base cand₀ keys₀ owners₀ count m cand keys owners n
 
-pub turning-begins : (p : Prefix) (kin base : ℕ) (cand keys owners : List ℕ) (count all : ℕ)
-    → Turning p kin base cand keys owners count all cand keys owners count 0
-turning-begins p kin base cand keys owners count all =
+pub turning-begins : (p : Prefix) (twin base : ℕ) (cand keys owners : List ℕ) (count all : ℕ)
+    → Turning p twin base cand keys owners count all cand keys owners count 0
+turning-begins p twin base cand keys owners count all =
     record {
       so-far = omega arith;
       few = omega arith;
       cand-size = refl;
       keys-size = refl;
       owners-size = refl;
-      forms = forms-begin p kin base cand keys owners count;
+      forms = forms-begin p twin base cand keys owners count;
     }
 
 next-few : (n at count m : ℕ) → n ≤ count + m → cond (ltb at n) n (n + 1) ≤ count + (m + 1)
@@ -144,9 +144,9 @@ next-few n at count m h = by (ltb at n)
     by true = omega arith
     by false = omega arith
 
-module _ (p : Prefix) (kin base : ℕ) (cand₀ keys₀ owners₀ : List ℕ) (count all : ℕ) (cand keys owners : List ℕ) (n m : ℕ)
-    (ready : Ready p kin base cand₀ keys₀ owners₀ count) (all-are : all ≡ weakerCountOf (used p))
-    (so : Turning p kin base cand₀ keys₀ owners₀ count all cand keys owners n m) (h : m < all) where
+module _ (p : Prefix) (twin base : ℕ) (cand₀ keys₀ owners₀ : List ℕ) (count all : ℕ) (cand keys owners : List ℕ) (n m : ℕ)
+    (ready : FormsReady p twin base cand₀ keys₀ owners₀ count) (all-are : all ≡ weakerCountOf (used p))
+    (so : Turning p twin base cand₀ keys₀ owners₀ count all cand keys owners n m) (h : m < all) where
   pub key-room : n < length keys
   unfolding mostListed
   key-room = omega (arith, so .few, so .keys-size, ready .keys-long, ready .count-few, ready .few-weaker)
@@ -162,9 +162,9 @@ module _ (p : Prefix) (kin base : ℕ) (cand₀ keys₀ owners₀ : List ℕ) (c
   unfolding mostListed
   listed-few = omega (arith, so .few, ready .count-few, ready .few-weaker)
 
-  pub turning-on : (puts key at next : ℕ) → puts ≡ putsOf (used (weakerAt p m)) → key ≡ kin * stride + puts → at ≡ placeIn key (take n keys)
+  pub turning-on : (puts key at next : ℕ) → puts ≡ putsOf (used (weakerAt p m)) → key ≡ twin * stride + puts → at ≡ placeIn key (take n keys)
       → next ≡ cond (ltb at n) n (n + 1)
-      → Turning p kin base cand₀ keys₀ owners₀ count all (set cand (base * stride + m) at) (set keys n key) (set owners n (base * stride + m)) next (m + 1)
+      → Turning p twin base cand₀ keys₀ owners₀ count all (set cand (base * stride + m) at) (set keys n key) (set owners n (base * stride + m)) next (m + 1)
   turning-on puts key at next puts-are key-is found e =
       record {
         so-far = omega arith;
@@ -174,8 +174,8 @@ module _ (p : Prefix) (kin base : ℕ) (cand₀ keys₀ owners₀ : List ℕ) (c
         owners-size = length-set owners n (base * stride + m) ∙ so .owners-size;
         forms =
             rw e
-            (forms-turn p kin base cand₀ keys₀ owners₀ count m cand keys owners n (so .forms) key at
-            (subst (λ (k : ℕ). m < k) all-are h) (key-is ∙ ap (λ (k : ℕ). kin * stride + k) puts-are) found key-room owner-room form-room);
+            (forms-turn p twin base cand₀ keys₀ owners₀ count m cand keys owners n (so .forms) key at
+            (subst (λ (k : ℕ). m < k) all-are h) (key-is ∙ ap (λ (k : ℕ). twin * stride + k) puts-are) found key-room owner-room form-room);
       }
 
 pub puts-below : (p : Prefix) → Sized p → (m puts : ℕ) → puts ≡ putsOf (used (weakerAt p m)) → puts < 16

@@ -2,19 +2,19 @@
 use Prim.Native.Nat.{ℕ, zero, suc, _+_, _*_, _≤_, _<_}
 use mathlib.Core.Path.{_≡_}
 use mathlib.Core.Logic.{_⊎_}
-use mathlib.Core.Bool.{true, cond}
+use mathlib.Core.Bool.{true, false, cond}
 use mathlib.Core.List.{List, [], _∷_}
 use lib.ListN.{length, getD}
 use lib.Dec.{eqb}
+use Rattle.nodes.specs.Nodes.{nodeRows, Node, nodeAt, countNodes}
 use Rattle.infon.specs.Formula.{Formula}
 use Rattle.infon.specs.Listing.{weakened, isListed, enlist, mostListed}
 use Rattle.infon.specs.Rules.{numbered}
-use Rattle.nodes.specs.Nodes.{Node, nodeAt, countNodes}
-use Rattle.table.specs.Table.{numberIn, putMask}
+use Rattle.formulas.specs.Table.{numberIn, putMask}
 use Rattle.prefix.specs.declared.Prefix.{Prefix}
 use Rattle.prefix.specs.Places.{Sized, used, weakerCountOf, weakerAt, putsOf}
 use Rattle.prefix.specs.Weaker.{weakerCount, choose, isBase, formAt}
-use Rattle.kin.specs.Kin.{kinOf}
+use Rattle.twins.specs.Twins.{twinOf}
 use Rattle.columns.specs.Columns.{stride}
 
 -- what a node asks to be listed: the forms of a base
@@ -35,7 +35,7 @@ placeIn x (y ∷ ys) =
 
 -- The key of a form: equal keys are equal formulas.
 unfoldable pub keyAt : List Node → ℕ → ℕ → ℕ
-keyAt row b m = kinOf row b * stride + putMask (choose (nodeAt row b .pre) m)
+keyAt row b m = twinOf row b * stride + putMask (choose (nodeAt row b .pre) m)
 
 -- form l of a base b
 pub record Form (row : List Node) (b l : ℕ) : Type 0 where
@@ -43,7 +43,8 @@ pub record Form (row : List Node) (b l : ℕ) : Type 0 where
   pub base : isBase (nodeAt row b .what) ≡ true
   pub less : l < weakerCount (nodeAt row b .pre)
 
--- formula number k was first listed as a form, which its owner tells, and its key is that form's
+-- formula number k was first listed as a form, which its owner tells, its key is that form's, and no earlier node has the formula
+-- among its forms
 pub record Owned (row : List Node) (fs : List Formula) (keys owners : List ℕ) (k : ℕ) : Type 0 where
   pub node : ℕ
   pub number : ℕ
@@ -51,6 +52,7 @@ pub record Owned (row : List Node) (fs : List Formula) (keys owners : List ℕ) 
   pub owner : getD owners k 0 ≡ node * stride + number
   pub key : getD keys k 0 ≡ keyAt row node number
   pub formula : numbered fs k ≡ formAt row node number
+  pub first : (a : ℕ) → a < node → isListed (numbered fs k) (ownForms (nodeAt row a)) ≡ false
 
 -- a form is listed, and its number is known
 pub record Placed (row : List Node) (fs : List Formula) (cand : List ℕ) (b l : ℕ) : Type 0 where
@@ -63,28 +65,28 @@ pub record Entered (row : List Node) (i m : ℕ) (fs : List Formula) (cand keys 
   pub owned : (k : ℕ) → k < n → Owned row fs keys owners k
   pub placed : (b l : ℕ) → Form row b l → (b < i) ⊎ ((b ≡ i) × (l < m)) → Placed row fs cand b l
 
--- A base of some row of nodes, its prefix by value and its first akin node.
-pub record BaseOf (row : List Node) (p : Prefix) (kin base : ℕ) : Type 0 where
+-- A base of some row of nodes, its prefix by value and its first twin.
+pub record BaseOf (row : List Node) (p : Prefix) (twin base : ℕ) : Type 0 where
   pub shallow : (i : ℕ) → i < countNodes row → length (nodeAt row i .pre) ≤ 4
   pub below : base < countNodes row
   pub is-base : isBase (nodeAt row base .what) ≡ true
   pub weaker-are : weakerCountOf (used p) ≡ weakerCount (nodeAt row base .pre)
   pub puts-are : (m : ℕ) → putsOf (used (weakerAt p m)) ≡ putMask (choose (nodeAt row base .pre) m)
-  pub kin-is : kin ≡ kinOf row base
+  pub twin-is : twin ≡ twinOf row base
 
 -- what is asked where the forms of a base are listed: sizes only
-pub record Ready (p : Prefix) (kin base : ℕ) (cand keys owners : List ℕ) (count : ℕ) : Type 0 where
+pub record FormsReady (p : Prefix) (twin base : ℕ) (cand keys owners : List ℕ) (count : ℕ) : Type 0 where
   pub sized : Sized p
   pub few-weaker : weakerCountOf (used p) ≤ stride
-  pub kin-few : kin < 1024
-  pub base-few : base < 1024
+  pub twin-few : twin < nodeRows
+  pub base-few : base < nodeRows
   pub count-few : count ≤ mostListed
-  pub cand-long : 1024 * stride ≤ length cand
+  pub cand-long : nodeRows * stride ≤ length cand
   pub keys-long : mostListed + stride ≤ length keys
   pub owners-long : mostListed + stride ≤ length owners
 
 -- whatever the base is of, its forms are listed behind what was listed
 abbrev pub FormsEntered : Prefix → ℕ → ℕ → List ℕ → List ℕ → List ℕ → ℕ → List ℕ → List ℕ → List ℕ → ℕ → Type 0
-FormsEntered p kin base cand keys owners count cand' keys' owners' r =
-    (row : List Node) (fs : List Formula) → BaseOf row p kin base → Entered row base 0 fs cand keys owners count
+FormsEntered p twin base cand keys owners count cand' keys' owners' r =
+    (row : List Node) (fs : List Formula) → BaseOf row p twin base → Entered row base 0 fs cand keys owners count
     → Entered row base (weakerCount (nodeAt row base .pre)) (enlist fs (weakened (nodeAt row base .pre) (nodeAt row base .what))) cand' keys' owners' r

@@ -2,18 +2,17 @@
 use Prim.Native.Nat.{ℕ, _+_, _*_, _≤_, _<_}
 use Prim.Native.Char.{code}
 use mathlib.Core.Path.{_≡_}
-use mathlib.Core.Logic.{_⊎_}
 use mathlib.Core.Bool.{cond}
 use mathlib.Core.List.{List, map}
-use lib.ListN.{length, getD, set}
+use lib.ListN.{length, set}
 use lib.Dec.{eqb}
+use Rattle.formulas.specs.Tests.{hypothesisAt}
+use Rattle.formulas.specs.Table.{tableRows, tableCells, cell, numberIn, flag}
+use Rattle.nodes.specs.Nodes.{nodeRows, countNodes, nodesOf, NodesHeld}
 use Rattle.infon.specs.Policy.{entriesOf, hypothesesOf, queriesOf}
 use Rattle.infon.specs.Listing.{isListed, listOf, mostListed}
 use Rattle.infon.specs.Rules.{numbered}
 use Rattle.infon.specs.Run.{written}
-use Rattle.nodes.specs.Nodes.{countNodes, nodesOf}
-use Rattle.table.specs.Table.{numberIn, flag}
-use Rattle.prefix.specs.Held.{NodesHeld}
 use Rattle.columns.specs.Columns.{stride}
 use Rattle.listing.specs.Forms.{Form, Placed}
 
@@ -22,7 +21,7 @@ pub record LinesReady (file t : List ℕ) (count : ℕ) (cand : List ℕ) : Type
   pub held : NodesHeld file t
   pub all : count ≡ countNodes (nodesOf file)
   pub few : length (listOf (entriesOf file)) ≤ mostListed
-  pub cand-long : 1024 * stride ≤ length cand
+  pub cand-long : nodeRows * stride ≤ length cand
   pub placed : (b l : ℕ) → Form (nodesOf file) b l → Placed (nodesOf file) (listOf (entriesOf file)) cand b l
 
 -- a cell of the hypothesis column, and a query's number, after a line
@@ -37,14 +36,15 @@ askedIn letter number q queries = cond (eqb letter (code "Q")) (set queries q nu
 
 -- the hypothesis column is clear, and then it is marked
 pub record Clear (file table : List ℕ) : Type 0 where
-  pub long : 6 * 4096 ≤ length table
-  pub zeros : (k : ℕ) → k < length (listOf (entriesOf file)) → getD table (20480 + k) 0 ≡ 0
+  pub long : tableCells ≤ length table
+  pub zeros : (k : ℕ) → k < length (listOf (entriesOf file)) → cell table hypothesisAt k ≡ 0
 
 pub record HypothesesMarked (file before after : List ℕ) : Type 0 where
   pub size : length after ≡ length before
   pub cells : (k : ℕ) → k < length (listOf (entriesOf file))
-      → getD after (20480 + k) 0 ≡ flag (isListed (numbered (listOf (entriesOf file)) k) (hypothesesOf (entriesOf file)))
-  pub others : (j : ℕ) → (j < 20480) ⊎ (20480 + length (listOf (entriesOf file)) ≤ j) → getD after j 0 ≡ getD before j 0
+      → cell after hypothesisAt k ≡ flag (isListed (numbered (listOf (entriesOf file)) k) (hypothesesOf (entriesOf file)))
+  pub others : (k i : ℕ) → i < tableRows → (k ≡ hypothesisAt → length (listOf (entriesOf file)) ≤ i)
+      → cell after k i ≡ cell before k i
 
 -- the queries' numbers stand at the buffer's front
 abbrev pub queryNumbers : List ℕ → List ℕ

@@ -3,18 +3,18 @@ use Prim.Native.Nat.{ℕ, _+_, _*_, _≤_, _<_}
 use mathlib.Core.Path.{_≡_}
 use mathlib.Core.List.{List}
 use lib.ListN.{length}
-use Rattle.infon.specs.Policy.{entriesOf, Verdict, passed, refused}
+use Rattle.nodes.specs.Nodes.{nodeRows, countNodes, nodesOf, NodesHeld}
+use Rattle.infon.specs.declared.Verdict.{Verdict}
+use Rattle.infon.specs.declared.Verdict.the-variants.{Passed, Refused}
+use Rattle.infon.specs.Policy.{entriesOf}
 use Rattle.infon.specs.Listing.{listOf, mostListed, code5}
-use Rattle.nodes.specs.Nodes.{countNodes, nodesOf}
-use Rattle.prefix.specs.Held.{NodesHeld}
 use Rattle.columns.specs.Columns.{stride}
 use Rattle.listing.specs.declared.Counted.{Counted}
-use Rattle.listing.specs.declared.Counted.the-variants.{Formulas, Over}
 use Rattle.listing.specs.Forms.{listedTo, Entered}
 
 -- the tables that are worked in
 pub record Worked (cand keys owners : List ℕ) : Type 0 where
-  pub cand-long : 1024 * stride ≤ length cand
+  pub cand-long : nodeRows * stride ≤ length cand
   pub keys-long : mostListed + stride ≤ length keys
   pub owners-long : mostListed + stride ≤ length owners
 
@@ -26,13 +26,13 @@ pub record NodeReady (file t : List ℕ) (i : ℕ) (cand keys owners : List ℕ)
   pub work : Worked cand keys owners
   pub so-far : Entered (nodesOf file) i 0 (listedTo (nodesOf file) i) cand keys owners n
 
--- the verdict as the listing tells it
-unfoldable pub countedOf : Verdict → ℕ → Counted
-countedOf passed n = Formulas n
-countedOf (refused code place) n = Over place
+-- the answer by the verdict of code 5: how many formulas there are, none where it refuses
+unfoldable pub countedBy : Verdict → ℕ → Counted
+countedBy Passed n = record { verdict = Passed; formulas = n }
+countedBy (Refused code place) n = record { verdict = Refused code place; formulas = 0 }
 
 -- all nodes are listed
 pub record NodesListed (file : List ℕ) (r : Counted) (cand keys owners : List ℕ) : Type 0 where
-  pub answer : r ≡ countedOf (code5 (entriesOf file)) (length (listOf (entriesOf file)))
-  pub tables : code5 (entriesOf file) ≡ passed
+  pub answer : r ≡ countedBy (code5 (entriesOf file)) (length (listOf (entriesOf file)))
+  pub tables : code5 (entriesOf file) ≡ Passed
       → Entered (nodesOf file) (countNodes (nodesOf file)) 0 (listOf (entriesOf file)) cand keys owners (length (listOf (entriesOf file)))

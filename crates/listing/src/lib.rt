@@ -2,33 +2,33 @@
 // among those listed or put behind them. Form m of node b, its formula under weaker prefix number m, stands at b * STRIDE + m: `cand`
 // has the number of every form of a base, `owners` the form as which a formula was first listed, `keys` that form's key.
 use columns::STRIDE;
+use formulas::HYPOTHESIS;
+use infon::Verdict;
 use nodes::END;
+use nodes::KIND;
 use nodes::LINE;
 use nodes::SAID;
+use nodes::cell_at;
 use prefix::Prefix;
 ghost use mathlib.Core.Path.{_≡_};
 ghost use mathlib.Core.Bool.{cond};
 ghost use Prim.Native.Nat.{suc, _+_, _≤_, _<_};
 ghost use lib.ListN.{length, take};
 ghost use lib.Dec.{ltb};
-ghost use Rattle.nodes.specs.Nodes.{countNodes, nodesOf};
-ghost use Rattle.prefix.specs.Held.{NodesHeld};
-ghost use Rattle.listing.specs.Forms.{listedTo, placeIn, Entered, Ready, FormsEntered};
+ghost use Rattle.nodes.specs.Nodes.{nodeRows, countNodes, nodesOf, NodesHeld};
+ghost use Rattle.listing.specs.Forms.{listedTo, placeIn, Entered, FormsReady, FormsEntered};
 ghost use Rattle.listing.specs.Lines.{LinesReady, markedBy, askedBy, askedIn, Clear, HypothesesMarked, QueriesNumbered};
 ghost use Rattle.listing.specs.Outcome.{ListReady, ListedFile};
 ghost use Rattle.listing.specs.Whole.{Worked, NodeReady, NodesListed};
 
 // "L is over 4,096" is code 5.
-const MOST: usize = 4096;
+const MOST: usize = formulas::ROWS;
 
 // The forms of 1,024 nodes.
-const FORMS: usize = 16384;
+const FORMS: usize = nodes::ROWS * STRIDE;
 
 // Room for a list that the last base takes over the limit.
-const ROOM: usize = 4112;
-
-// Where the formula table's column of hypotheses begins.
-const HYPOTHESES: usize = table::HYPOTHESIS * table::ROWS;
+const ROOM: usize = MOST + STRIDE;
 
 // Where a formula with this key stands among the first n, n where it is new.
 fn find(keys: &[u32], n: usize, key: u32) -> usize
@@ -46,7 +46,7 @@ fn find(keys: &[u32], n: usize, key: u32) -> usize
 }
 
 // A formula that was found adds nothing to the list, a new one adds itself.
-fn grown(n: usize, at: usize) -> usize
+fn longer(n: usize, at: usize) -> usize
     requires { ⌜ n < 65536 ⌝ }
     ensures { λ r. ⌜ r ≡ cond (ltb at n) n (n + 1) ⌝ }
 {
@@ -59,28 +59,28 @@ fn grown(n: usize, at: usize) -> usize
 // Lists the forms of a base, said before put, behind the first `count` formulas; how many there are then.
 fn list_forms(
     p: Prefix,
-    kin: usize,
+    twin: usize,
     base: usize,
     cand: &mut [u16],
     keys: &mut [u32],
     owners: &mut [u32],
     count: usize,
 ) -> usize
-    requires { ⌜ Ready p kin base (now cand) (now keys) (now owners) count ⌝ }
-    ensures { λ r. ⌜ FormsEntered p kin base (now (cand .entry)) (now (keys .entry)) (now (owners .entry)) count (now (cand .exit)) (now (keys .exit)) (now (owners .exit)) r ⌝ }
+    requires { ⌜ FormsReady p twin base (now cand) (now keys) (now owners) count ⌝ }
+    ensures { λ r. ⌜ FormsEntered p twin base (now (cand .entry)) (now (keys .entry)) (now (owners .entry)) count (now (cand .exit)) (now (keys .exit)) (now (owners .exit)) r ⌝ }
 {
     let all = prefix::weaker_count(p);
     let mut n = count;
     let mut m = 0;
     while m < all {
         let puts = prefix::puts(prefix::weaker(p, m));
-        let key = (kin * STRIDE + puts) as u32;
+        let key = (twin * STRIDE + puts) as u32;
         let at = find(keys, n, key);
         let form = base * STRIDE + m;
         cand[form] = at as u16;
         keys[n] = key;
         owners[n] = form as u32;
-        n = grown(n, at);
+        n = longer(n, at);
         m += 1;
     }
     n
@@ -99,18 +99,18 @@ fn list_node(
     requires { ⌜ NodeReady (now file) (now nodes) i (now cand) (now keys) (now owners) n ⌝ }
     ensures { λ r. ⌜ Entered (nodesOf (now (file .entry))) (i + 1) 0 (listedTo (nodesOf (now (file .entry))) (suc i)) (now (cand .exit)) (now (keys .exit)) (now (owners .exit)) r ⌝ }
 {
-    if SAID <= nodes[i] {
+    if SAID <= cell_at(nodes, KIND, i) {
         return n;
     }
-    let kin = kin::first_akin(file, nodes, i);
+    let twin = twins::first_twin(file, nodes, i);
     let p = prefix::prefix_of(nodes, i);
-    list_forms(p, kin, i, cand, keys, owners, n)
+    list_forms(p, twin, i, cand, keys, owners, n)
 }
 
-// So many formulas are listed, or the line at a place needs one too many.
-enum Counted {
-    Formulas(usize),
-    Over(usize),
+// What code 5 says, and how many formulas are listed where it passes.
+struct Counted {
+    verdict: Verdict,
+    formulas: usize,
 }
 
 // Lists all nodes in order, up to the limit.
@@ -130,16 +130,22 @@ fn list_nodes(
     while i < count {
         n = list_node(file, nodes, i, cand, keys, owners, n);
         if MOST < n {
-            let line = nodes[LINE + i] as usize;
-            return Counted::Over(line);
+            let place = cell_at(nodes, LINE, i);
+            return Counted {
+                verdict: Verdict::Refused { code: 5, place },
+                formulas: 0,
+            };
         }
         i += 1;
     }
-    Counted::Formulas(n)
+    Counted {
+        verdict: Verdict::Passed,
+        formulas: n,
+    }
 }
 
 // A formula is marked by a line `H`, and otherwise as it was.
-fn mark(letter: u8, old: u16) -> u16
+fn mark(letter: u8, old: usize) -> usize
     ensures { λ r. ⌜ r ≡ markedBy letter old ⌝ }
 {
     if letter == b'H' {
@@ -155,13 +161,12 @@ fn fill_hypotheses(file: &[u8], nodes: &[u16], count: usize, cand: &[u16], table
 {
     let mut r = 0;
     while r < count {
-        let number = columns::number_at(nodes, cand, r, 0) as usize;
-        let line = nodes[LINE + r] as usize;
+        let number = columns::form_number(nodes, cand, r, 0) as usize;
+        let line = cell_at(nodes, LINE, r);
         let letter = file[line];
-        let old = table[HYPOTHESES + number];
-        let new = mark(letter, old);
-        table[HYPOTHESES + number] = new;
-        r = nodes[END + r] as usize;
+        let old = formulas::cell_at(table, HYPOTHESIS, number);
+        formulas::set_cell(table, HYPOTHESIS, number, mark(letter, old));
+        r = cell_at(nodes, END, r);
     }
 }
 
@@ -185,24 +190,25 @@ fn fill_queries(
     cand: &[u16],
     queries: &mut [u16],
 ) -> usize
-    requires { ⌜ LinesReady (now file) (now nodes) count (now cand) × (1024 ≤ length (now queries)) ⌝ }
+    requires { ⌜ LinesReady (now file) (now nodes) count (now cand) × (nodeRows ≤ length (now queries)) ⌝ }
     ensures { λ r. ⌜ QueriesNumbered (now (file .entry)) (now (queries .entry)) (now (queries .exit)) r ⌝ }
 {
     let mut q = 0;
     let mut r = 0;
     while r < count {
-        let number = columns::number_at(nodes, cand, r, 0);
-        let line = nodes[LINE + r] as usize;
+        let number = columns::form_number(nodes, cand, r, 0);
+        let line = cell_at(nodes, LINE, r);
         q = ask(file[line], number, queries, q);
-        r = nodes[END + r] as usize;
+        r = cell_at(nodes, END, r);
     }
     q
 }
 
-// What the listing of a file comes to: L and the number of queries, or the place that code 5 gives.
-pub enum Listing {
-    Listed { formulas: usize, queries: usize },
-    TooMany { place: usize },
+// What code 5 says of a file, and where it passes L and the number of queries.
+pub struct Listed {
+    pub verdict: Verdict,
+    pub formulas: usize,
+    pub queries: usize,
 }
 
 // Lists a file's formulas, fills the formula table and numbers the queries. Where the list is too long, both buffers stay as they
@@ -213,7 +219,7 @@ pub fn list(
     count: usize,
     table: &mut [u16],
     queries: &mut [u16],
-) -> Listing
+) -> Listed
     requires { ⌜ ListReady (now file) (now nodes) count (now table) (now queries) ⌝ }
     ensures { λ r. ⌜ ListedFile (now (file .entry)) (now (table .entry)) (now (queries .entry)) (now (table .exit)) (now (queries .exit)) r ⌝ }
 {
@@ -221,16 +227,21 @@ pub fn list(
     let mut keys = [0u32; ROOM];
     let mut owners = [0u32; ROOM];
     let counted = list_nodes(file, nodes, count, &mut cand, &mut keys, &mut owners);
-    match counted {
-        Counted::Over(place) => Listing::TooMany { place },
-        Counted::Formulas(n) => {
-            columns::fill_columns(nodes, &cand, &keys, &owners, n, table);
-            fill_hypotheses(file, nodes, count, &cand, table);
-            let asked = fill_queries(file, nodes, count, &cand, queries);
-            Listing::Listed {
-                formulas: n,
-                queries: asked,
-            }
-        }
+    let verdict = counted.verdict;
+    if let Verdict::Refused { code, place } = verdict {
+        return Listed {
+            verdict: Verdict::Refused { code, place },
+            formulas: 0,
+            queries: 0,
+        };
+    }
+    let n = counted.formulas;
+    columns::fill_columns(nodes, &cand, &keys, &owners, n, table);
+    fill_hypotheses(file, nodes, count, &cand, table);
+    let asked = fill_queries(file, nodes, count, &cand, queries);
+    Listed {
+        verdict: Verdict::Passed,
+        formulas: n,
+        queries: asked,
     }
 }

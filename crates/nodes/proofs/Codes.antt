@@ -11,9 +11,12 @@ use lib.ListN.{length, getD, drop}
 use lib.Dec.{ltb}
 use borrow.Author.Tests.{lt-ltb, le-ltb, ltb-true, ltb-false}
 use Rattle.infon.specs.Formula.{Formula, True, name, and, implies, quoted, nodes, depth}
-use Rattle.infon.specs.Policy.{Entry, formulaIn, Verdict, passed, refused, when, andThen, mostNodes, code3From, code3, mostDepth, code4}
+use Rattle.infon.specs.declared.Verdict.{Verdict}
+use Rattle.infon.specs.declared.Verdict.the-variants.{Passed, Refused}
+use Rattle.infon.specs.Codes.{when, andThen}
+use Rattle.infon.specs.Policy.{Entry, formulaIn, mostNodes, code3From, code3, mostDepth, code4}
 use Rattle.infon.proofs.Rows.{decided}
-use Rattle.infon.proofs.Cuts.{andThen-passed, when-passed}
+use Rattle.infon.proofs.Tried.{andThen-passed, when-passed}
 use Rattle.nodes.specs.Nodes.{Node, part, inner, kidsOf, kids, after, nowhere, nodeAt, root, roots, countNodes}
 use Rattle.nodes.proofs.Order.{after-add, after-all, count-append, node-first, node-step, kids-count}
 use Rattle.nodes.proofs.Every.{Each, each-append}
@@ -48,7 +51,7 @@ Code3At count j entries =
     when (ltb mostNodes (count + countNodes (roots entries))) 3 (getD (after j (mostNodes - count) (roots entries)) 0 nowhere .line)
 
 module _ (e : Entry) (rest : List Entry) (count j : ℕ) where
-  line-over : mostNodes < count + nodes (formulaIn (e .sentence)) → count ≤ mostNodes → Code3At count j (e ∷ rest) ≡ refused 3 (e .start)
+  line-over : mostNodes < count + nodes (formulaIn (e .sentence)) → count ≤ mostNodes → Code3At count j (e ∷ rest) ≡ Refused 3 (e .start)
   unfolding roots root countNodes when
   line-over over few =
       rw (
@@ -88,14 +91,14 @@ code3-node entries =
     code3-from entries 0 0 (omega arith)
     ∙ ap (λ n. when (ltb mostNodes n) 3 (nodeAt (roots entries) mostNodes .line)) (zero-add (countNodes (roots entries)))
 
-pub code3-few : (entries : List Entry) → code3 entries ≡ passed → countNodes (roots entries) ≤ mostNodes
+pub code3-few : (entries : List Entry) → code3 entries ≡ Passed → countNodes (roots entries) ≤ mostNodes
 code3-few entries h =
     ltb-false mostNodes (countNodes (roots entries))
     (when-passed (ltb mostNodes (countNodes (roots entries))) 3 (nodeAt (roots entries) mostNodes .line) (sym (code3-node entries) ∙ h))
 
 -- Code 4 of the rows still to be gone through: a node's depth is what stands above it and what stands inside.
 unfoldable pub code4Of : List Node → Verdict
-code4Of [] = passed
+code4Of [] = Passed
 code4Of (n ∷ row) = andThen (when (ltb mostDepth (length (n .pre) + depth (n .what))) 4 (n .line)) (code4Of row)
 
 pub code4-roots : (entries : List Entry) → code4 entries ≡ code4Of (roots entries)
@@ -158,18 +161,18 @@ module _ (row : List Node) where
       ap code4Of (node-first row i h) ∙ code4-step i (nodeAt row i) (drop 1 (after 0 i row))
       ∙ ap (λ r. andThen (when (ltb mostDepth (length (nodeAt row i .pre))) 4 (nodeAt row i .line)) (code4Of r)) (sym (node-step row i h))
 
-  code4-parts : (i : ℕ) → i < countNodes row → code4Of (after 0 i row) ≡ passed
-      → (when (ltb mostDepth (length (nodeAt row i .pre))) 4 (nodeAt row i .line) ≡ passed) × (code4Of (after 0 (suc i) row) ≡ passed)
+  code4-parts : (i : ℕ) → i < countNodes row → code4Of (after 0 i row) ≡ Passed
+      → (when (ltb mostDepth (length (nodeAt row i .pre))) 4 (nodeAt row i .line) ≡ Passed) × (code4Of (after 0 (suc i) row) ≡ Passed)
   code4-parts i h e =
       andThen-passed (when (ltb mostDepth (length (nodeAt row i .pre))) 4 (nodeAt row i .line)) (code4Of (after 0 (suc i) row))
       (sym (code4-next i h) ∙ e)
 
-  code4-rest : code4Of row ≡ passed → (i : ℕ) → i ≤ countNodes row → code4Of (after 0 i row) ≡ passed
+  code4-rest : code4Of row ≡ Passed → (i : ℕ) → i ≤ countNodes row → code4Of (after 0 i row) ≡ Passed
   unfolding after
   code4-rest e zero h = e
   code4-rest e (suc i) h = code4-parts i h (code4-rest e i (omega arith)) .1
 
-  pub shallow-nodes : code4Of row ≡ passed → (i : ℕ) → i < countNodes row → length (nodeAt row i .pre) ≤ mostDepth
+  pub shallow-nodes : code4Of row ≡ Passed → (i : ℕ) → i < countNodes row → length (nodeAt row i .pre) ≤ mostDepth
   shallow-nodes e i h =
       ltb-false mostDepth (length (nodeAt row i .pre))
       (when-passed (ltb mostDepth (length (nodeAt row i .pre))) 4 (nodeAt row i .line) (code4-parts i h (code4-rest e i (omega arith)) .0))

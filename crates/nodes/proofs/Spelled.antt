@@ -14,10 +14,12 @@ use lib.Seq.{drop-drop, drop-append-seam, take-append-seam, getD-drop}
 use borrow.Author.Tests.{not-false}
 use Rattle.infon.specs.Bytes.{bytes, space, lineFeed}
 use Rattle.infon.specs.Formula.{Quotation, Formula, True, name, and, implies, quoted, letterOf, words, joined, spelling}
-use Rattle.infon.specs.Policy.{cut, Line, placed, linesOf, Sentence, hypothesis, query, sentenceOf, isSome, isWellFormed, withEntry, entriesFrom, entriesOf, formulaIn, passed, when, code2From, code2}
+use Rattle.infon.specs.declared.Verdict.the-variants.{Passed}
+use Rattle.infon.specs.Codes.{when}
+use Rattle.infon.specs.Policy.{cut, Line, placed, linesOf, Sentence, hypothesis, query, sentenceOf, isSome, isWellFormed, withEntry, entriesFrom, entriesOf, formulaIn, code2From, code2}
 use Rattle.infon.proofs.Readable.{words-nonempty, letter-length}
 use Rattle.infon.proofs.Lines.{cut-concat, opening, lineOf, line-read}
-use Rattle.infon.proofs.Cuts.{andThen-passed, when-passed}
+use Rattle.infon.proofs.Tried.{andThen-passed, when-passed}
 use Rattle.nodes.specs.Nodes.{Node, part, inner, kidsOf, kids, after, nodeAt, root, roots, countNodes, ownBytes, nodesOf}
 use Rattle.nodes.proofs.Order.{node-first}
 use Rattle.nodes.proofs.Every.{every-row}
@@ -261,7 +263,7 @@ module _ (file : List ℕ) (start : ℕ) (text : List ℕ) (s : Sentence) (e : t
       )
 
 lines-chain : (file : List ℕ) (start : ℕ) (lines : List (List ℕ)) → start + length (flatten lines) ≡ length file → drop start file ≡ flatten lines
-    → code2From (placed start lines) ≡ passed → Chain file (start + 2) start (roots (entriesFrom (placed start lines)))
+    → code2From (placed start lines) ≡ Passed → Chain file (start + 2) start (roots (entriesFrom (placed start lines)))
 unfolding placed entriesFrom roots root code2From flatten withEntry
 lines-chain file start [] whole rest h = omega arith
 lines-chain file start (text ∷ lines) whole rest h =
@@ -285,12 +287,12 @@ lines-chain file start (text ∷ lines) whole rest h =
       ),
     )
 
-pub file-chain : (file : List ℕ) → code2 file ≡ passed → Chain file 2 0 (nodesOf file)
+pub file-chain : (file : List ℕ) → code2 file ≡ Passed → Chain file 2 0 (nodesOf file)
 unfolding code2 linesOf nodesOf entriesOf
 file-chain file h = lines-chain file 0 (cut file) (rw (cut-concat file) (zero-add (length file))) (sym (cut-concat file)) h
 
 -- The nodes of a well-formed file.
-module _ (file : List ℕ) (formed : code2 file ≡ passed) where
+module _ (file : List ℕ) (formed : code2 file ≡ Passed) where
   pub nodes-chained : (i : ℕ) → i ≤ countNodes (nodesOf file) → Chained file (after 0 i (nodesOf file))
   nodes-chained =
       every-row (λ i. Chained file) (nodesOf file)

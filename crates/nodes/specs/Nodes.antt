@@ -2,9 +2,10 @@
 use Prim.Native.Nat.{ℕ, zero, suc, _+_, _*_, _<_}
 use mathlib.Core.Path.{_≡_}
 use mathlib.Core.List.{List, [], _∷_, _++_}
-use lib.ListN.{length, getD}
+use lib.ListN.{length, getD, set}
 use Rattle.infon.specs.Formula.{Told, said, put, Quotation, Formula, True, name, and, implies, quoted, spelling, nodes}
-use Rattle.infon.specs.Policy.{Entry, entriesOf, formulaIn}
+use Rattle.infon.specs.declared.Verdict.the-variants.{Passed}
+use Rattle.infon.specs.Policy.{Entry, entriesOf, formulaIn, code2, code3, code4}
 use Rattle.infon.specs.Listing.{Prefix}
 
 -- A node still to be gone through: its first byte's place, its line's start, the number of the nearest quotation above it,
@@ -17,7 +18,7 @@ pub record Node : Type 0 where
   pub what : Formula
 
 -- stands for no quotation above
-unfoldable pub none-above : ℕ
+abbrev pub none-above : ℕ
 none-above = 0xFFFF
 
 -- What a node puts in its place: nothing for a leaf, both parts under the same prefix, the quoted formula under the longer one.
@@ -62,12 +63,44 @@ unfoldable pub countNodes : List Node → ℕ
 countNodes [] = 0
 countNodes (n ∷ row) = nodes (n .what) + countNodes row
 
--- the table's columns, 1,024 rows each
-unfoldable pub nodeRows : ℕ
+-- the table: seven columns of 1,024 rows, one column behind the other
+abbrev pub nodeRows : ℕ
 nodeRows = 1024
 
-unfoldable pub nodeColumns : ℕ
+abbrev pub nodeColumns : ℕ
 nodeColumns = 7
+
+abbrev pub nodeTable : ℕ
+nodeTable = 7168
+
+-- the columns by number
+abbrev pub nodeKind : ℕ
+nodeKind = 0
+
+abbrev pub nodePlace : ℕ
+nodePlace = 1
+
+abbrev pub nodeOwn : ℕ
+nodeOwn = 2
+
+abbrev pub nodeEnd : ℕ
+nodeEnd = 3
+
+abbrev pub nodeAbove : ℕ
+nodeAbove = 4
+
+abbrev pub nodeLine : ℕ
+nodeLine = 5
+
+abbrev pub nodeDepth : ℕ
+nodeDepth = 6
+
+-- a cell of the table, and the table with another cell
+abbrev pub nodeCell : List ℕ → ℕ → ℕ → ℕ
+nodeCell t column i = getD t (column * nodeRows + i) 0
+
+abbrev pub withNodeCell : List ℕ → ℕ → ℕ → ℕ → List ℕ
+withNodeCell t column i value = set t (column * nodeRows + i) value
 
 -- column 0, the kind
 unfoldable pub kindOf : Formula → ℕ
@@ -91,20 +124,30 @@ ownBytes (quoted q x) = 2 + length (q .principal)
 
 -- what stands in the columns at a node's number i: its kind, place, own bytes, the number behind its last node, the nearest
 -- quotation above, its line's start, and how many quotations are above it
-unfoldable pub nodeCell : ℕ → ℕ → Node → ℕ
-nodeCell zero i n = kindOf (n .what)
-nodeCell (suc zero) i n = n .place
-nodeCell (suc (suc zero)) i n = ownBytes (n .what)
-nodeCell (suc (suc (suc zero))) i n = i + nodes (n .what)
-nodeCell (suc (suc (suc (suc zero)))) i n = n .above
-nodeCell (suc (suc (suc (suc (suc zero))))) i n = n .line
-nodeCell (suc (suc (suc (suc (suc (suc k)))))) i n = length (n .pre)
+unfoldable pub nodeValue : ℕ → ℕ → Node → ℕ
+nodeValue zero i n = kindOf (n .what)
+nodeValue (suc zero) i n = n .place
+nodeValue (suc (suc zero)) i n = ownBytes (n .what)
+nodeValue (suc (suc (suc zero))) i n = i + nodes (n .what)
+nodeValue (suc (suc (suc (suc zero)))) i n = n .above
+nodeValue (suc (suc (suc (suc (suc zero))))) i n = n .line
+nodeValue (suc (suc (suc (suc (suc (suc k)))))) i n = length (n .pre)
 
 -- The table holds the nodes of a row: each cell of a node is as said, every other one as it was before.
 pub record Noded (row : List Node) (before after : List ℕ) : Type 0 where
   pub size : length after ≡ length before
-  pub cells : (k i : ℕ) → k < nodeColumns → i < countNodes row → getD after (k * nodeRows + i) 0 ≡ nodeCell k i (nodeAt row i)
-  pub others : (k i : ℕ) → i < nodeRows → (i < countNodes row → ⊥) → getD after (k * nodeRows + i) 0 ≡ getD before (k * nodeRows + i) 0
+  pub cells : (k i : ℕ) → k < nodeColumns → i < countNodes row → nodeCell after k i ≡ nodeValue k i (nodeAt row i)
+  pub others : (k i : ℕ) → i < nodeRows → (i < countNodes row → ⊥) → nodeCell after k i ≡ nodeCell before k i
 
 unfoldable pub nodesOf : List ℕ → List Node
 nodesOf file = roots (entriesOf file)
+
+-- What is known where the node table of a file is at hand: codes 2 to 4 do not apply to the file (nor code 1, which nothing here
+-- leans on), and the table holds its nodes.
+pub record NodesHeld (file t : List ℕ) : Type 0 where
+  pub formed : code2 file ≡ Passed
+  pub few : code3 (entriesOf file) ≡ Passed
+  pub shallow : code4 (entriesOf file) ≡ Passed
+  pub long : length t ≡ nodeTable
+  pub before : List ℕ
+  pub held : Noded (nodesOf file) before t

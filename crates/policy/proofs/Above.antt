@@ -10,74 +10,73 @@ use lib.ListN.{length, drop}
 use borrow.Author.Tests.{lt-ltb, le-ltb}
 use Rattle.infon.specs.Formula.{Quotation, Formula, True, name, and, implies, quoted, spelling, nodes}
 use Rattle.infon.specs.Policy.{entriesOf}
-use Rattle.nodes.specs.Nodes.{Node, none-above, part, inner, kidsOf, kids, after, nodeAt, roots, countNodes, kindOf, nodesOf, nodeCell}
+use Rattle.nodes.specs.Nodes.{Node, none-above, part, inner, kidsOf, kids, after, nodeAt, roots, countNodes, kindOf, nodesOf, nodeValue, nodeTable, nodeCell, withNodeCell}
 use Rattle.nodes.proofs.Order.{nodes-positive, count-after, node-first, node-step, node-within, and-left, implies-left, quoted-high}
 use Rattle.nodes.proofs.Every.{Each, Outermost, roots-outermost, node-shallow}
-use Rattle.policy.specs.Filling
-use Rattle.policy.specs.Filling.{tableSize, cellAt, abovePut, endedCell, Held, Holding, Passes, handedDown, EndReads}
+use Rattle.policy.specs.Filling.{abovePut, endedCell, RowsAre, Holding, Passes, handedDown, EndReads}
 use Rattle.policy.proofs.Cells.{put-same, put-size, put-row, put-column}
 use Rattle.policy.proofs.Ends.{node-reads}
 
 -- The two stores.
-module _ (t : List ℕ) (long : length t ≡ tableSize) (i above depth : ℕ) (here : i < 1024) where
+module _ (t : List ℕ) (long : length t ≡ nodeTable) (i above depth : ℕ) (here : i < 1024) where
   abbrev first : List ℕ
-  first = Filling.put t 4 i above
+  first = withNodeCell t 4 i above
 
-  long-first : length first ≡ tableSize
+  long-first : length first ≡ nodeTable
   long-first = put-size t long 4 i above (omega arith) here
 
-  pub above-size : length (abovePut t i above depth) ≡ tableSize
+  pub above-size : length (abovePut t i above depth) ≡ nodeTable
   unfolding abovePut
   above-size = put-size first long-first 6 i depth (omega arith) here
 
-  pub above-there : cellAt (abovePut t i above depth) 4 i ≡ above
+  pub above-there : nodeCell (abovePut t i above depth) 4 i ≡ above
   unfolding abovePut
   above-there = put-column first 6 i depth 4 i here here (omega arith) ∙ put-same t long 4 i above (omega arith) here
 
-  pub depth-there : cellAt (abovePut t i above depth) 6 i ≡ depth
+  pub depth-there : nodeCell (abovePut t i above depth) 6 i ≡ depth
   unfolding abovePut
   depth-there = put-same first long-first 6 i depth (omega arith) here
 
-  pub above-row : (k j : ℕ) → j < 1024 → (j ≡ i → ⊥) → cellAt (abovePut t i above depth) k j ≡ cellAt t k j
+  pub above-row : (k j : ℕ) → j < 1024 → (j ≡ i → ⊥) → nodeCell (abovePut t i above depth) k j ≡ nodeCell t k j
   unfolding abovePut
   above-row k j there apart = put-row first 6 i depth k j here there apart ∙ put-row t 4 i above k j here there apart
 
-  pub above-column : (k j : ℕ) → j < 1024 → (k ≡ 4 → ⊥) → (k ≡ 6 → ⊥) → cellAt (abovePut t i above depth) k j ≡ cellAt t k j
+  pub above-column : (k j : ℕ) → j < 1024 → (k ≡ 4 → ⊥) → (k ≡ 6 → ⊥) → nodeCell (abovePut t i above depth) k j ≡ nodeCell t k j
   unfolding abovePut
   above-column k j there four six = put-column first 6 i depth k j here there six ∙ put-column t 4 i above k j here there four
 
 -- What the code's tests say.
 module _ (t : List ℕ) (i : ℕ) where
-  pub down-leaf : cellAt t 0 i < 2 → t ≡ handedDown t i
+  pub down-leaf : nodeCell t 0 i < 2 → t ≡ handedDown t i
   unfolding handedDown
-  down-leaf h = rw (lt-ltb (cellAt t 0 i) 2 h)
+  down-leaf h = rw (lt-ltb (nodeCell t 0 i) 2 h)
 
-  pub down-quoted : 2 ≤ cellAt t 0 i → 3 < cellAt t 0 i → abovePut t (i + 1) i (cellAt t 6 i + 1) ≡ handedDown t i
+  pub down-quoted : 2 ≤ nodeCell t 0 i → 3 < nodeCell t 0 i → abovePut t (i + 1) i (nodeCell t 6 i + 1) ≡ handedDown t i
   unfolding handedDown
-  down-quoted h k = rw (le-ltb (cellAt t 0 i) 2 h, lt-ltb 3 (cellAt t 0 i) k)
+  down-quoted h k = rw (le-ltb (nodeCell t 0 i) 2 h, lt-ltb 3 (nodeCell t 0 i) k)
 
-  pub down-parts : 2 ≤ cellAt t 0 i → cellAt t 0 i ≤ 3
-      → abovePut (abovePut t (i + 1) (cellAt t 4 i) (cellAt t 6 i)) (cellAt t 3 (i + 1)) (cellAt t 4 i) (cellAt t 6 i) ≡ handedDown t i
+  pub down-parts : 2 ≤ nodeCell t 0 i → nodeCell t 0 i ≤ 3
+      → abovePut (abovePut t (i + 1) (nodeCell t 4 i) (nodeCell t 6 i)) (nodeCell t 3 (i + 1)) (nodeCell t 4 i) (nodeCell t 6 i) ≡ handedDown t i
   unfolding handedDown
-  down-parts h k = rw (le-ltb (cellAt t 0 i) 2 h, le-ltb 3 (cellAt t 0 i) k)
+  down-parts h k = rw (le-ltb (nodeCell t 0 i) 2 h, le-ltb 3 (nodeCell t 0 i) k)
 
   -- the two stores of an operator
   pub down-stored : (u v : List ℕ) (above depth right : ℕ) → u ≡ abovePut t (i + 1) above depth → v ≡ abovePut u right above depth
-      → above ≡ cellAt t 4 i → depth ≡ cellAt t 6 i → right ≡ cellAt t 3 (i + 1) → 2 ≤ cellAt t 0 i → cellAt t 0 i ≤ 3 → v ≡ handedDown t i
+      → above ≡ nodeCell t 4 i → depth ≡ nodeCell t 6 i → right ≡ nodeCell t 3 (i + 1) → 2 ≤ nodeCell t 0 i → nodeCell t 0 i ≤ 3 → v ≡ handedDown t i
   down-stored u v above depth right first second a d r low high =
       second ∙ rw (first, a, d, r) (down-parts low high)
 
 -- Only rows behind i and before n change, and of them only what stands above.
 pub record Down (t after : List ℕ) (i n : ℕ) : Type 0 where
-  pub long : length after ≡ tableSize
-  pub columns : (k j : ℕ) → j < 1024 → (k ≡ 4 → ⊥) → (k ≡ 6 → ⊥) → cellAt after k j ≡ cellAt t k j
-  pub earlier : (k j : ℕ) → j < 1024 → j ≤ i → cellAt after k j ≡ cellAt t k j
-  pub later : (k j : ℕ) → j < 1024 → n ≤ j → cellAt after k j ≡ cellAt t k j
+  pub long : length after ≡ nodeTable
+  pub columns : (k j : ℕ) → j < 1024 → (k ≡ 4 → ⊥) → (k ≡ 6 → ⊥) → nodeCell after k j ≡ nodeCell t k j
+  pub earlier : (k j : ℕ) → j < 1024 → j ≤ i → nodeCell after k j ≡ nodeCell t k j
+  pub later : (k j : ℕ) → j < 1024 → n ≤ j → nodeCell after k j ≡ nodeCell t k j
 
-down-none : (t : List ℕ) (i n : ℕ) → length t ≡ tableSize → Down t t i n
+down-none : (t : List ℕ) (i n : ℕ) → length t ≡ nodeTable → Down t t i n
 down-none t i n long = record { long = long; columns = λ k j h f s. refl; earlier = λ k j h e. refl; later = λ k j h e. refl }
 
-down-put : (t : List ℕ) (i n p above depth : ℕ) → length t ≡ tableSize → i < p → p < n → n ≤ 1024 → Down t (abovePut t p above depth) i n
+down-put : (t : List ℕ) (i n p above depth : ℕ) → length t ≡ nodeTable → i < p → p < n → n ≤ 1024 → Down t (abovePut t p above depth) i n
 down-put t i n p above depth long low high few =
     record {
       long = above-size t long p above depth (omega arith);
@@ -98,9 +97,9 @@ down-then t u v i n a b =
 -- The nodes still to be gone through have what stands above them already.
 abbrev pub Waiting : List ℕ → ℕ → List Node → Type 0
 Waiting t j [] = Unit {0}
-Waiting t j (n ∷ row) = (cellAt t 4 j ≡ n .above) × ((cellAt t 6 j ≡ length (n .pre)) × Waiting t (j + nodes (n .what)) row)
+Waiting t j (n ∷ row) = (nodeCell t 4 j ≡ n .above) × ((nodeCell t 6 j ≡ length (n .pre)) × Waiting t (j + nodes (n .what)) row)
 
-waiting-kept : (t after : List ℕ) (low : ℕ) → ((k j : ℕ) → j < 1024 → low ≤ j → cellAt after k j ≡ cellAt t k j)
+waiting-kept : (t after : List ℕ) (low : ℕ) → ((k j : ℕ) → j < 1024 → low ≤ j → nodeCell after k j ≡ nodeCell t k j)
     → (row : List Node) (j : ℕ) → low ≤ j → j + countNodes row ≤ 1024 → Waiting t j row → Waiting after j row
 unfolding countNodes
 waiting-kept t after low same [] j h fits w = tt
@@ -114,54 +113,54 @@ waiting-kept t after low same (n ∷ row) j h fits w =
     )
 
 -- One node hands down.
-module _ (t : List ℕ) (long : length t ≡ tableSize) (i : ℕ) (n : Node) (rest : List Node) (fits : i + (nodes (n .what) + countNodes rest) ≤ 1024)
-    (kind : cellAt t 0 i ≡ kindOf (n .what)) (waiting : Waiting t i (n ∷ rest)) where
+module _ (t : List ℕ) (long : length t ≡ nodeTable) (i : ℕ) (n : Node) (rest : List Node) (fits : i + (nodes (n .what) + countNodes rest) ≤ 1024)
+    (kind : nodeCell t 0 i ≡ kindOf (n .what)) (waiting : Waiting t i (n ∷ rest)) where
   leaf-down : nodes (n .what) ≡ 1 → Waiting t (suc i) rest
   leaf-down one = subst (λ j. Waiting t j rest) (omega arith) (waiting .1 .1)
 
-  quoted-down : (q : Quotation) (x : Formula) → nodes (n .what) ≡ suc (nodes x) → Waiting (abovePut t (i + 1) i (cellAt t 6 i + 1)) (suc i) (inner i n q x ∷ rest)
+  quoted-down : (q : Quotation) (x : Formula) → nodes (n .what) ≡ suc (nodes x) → Waiting (abovePut t (i + 1) i (nodeCell t 6 i + 1)) (suc i) (inner i n q x ∷ rest)
   unfolding inner
   quoted-down q x size =
       let some-nodes = nodes-positive x in
       let here : i + 1 < 1024 = omega arith in
       let next : i + 1 ≡ suc i = add-one i in (
-        ap (cellAt (abovePut t (i + 1) i (cellAt t 6 i + 1)) 4) (sym next) ∙ above-there t long (i + 1) i (cellAt t 6 i + 1) here,
+        ap (nodeCell (abovePut t (i + 1) i (nodeCell t 6 i + 1)) 4) (sym next) ∙ above-there t long (i + 1) i (nodeCell t 6 i + 1) here,
         (
-          ap (cellAt (abovePut t (i + 1) i (cellAt t 6 i + 1)) 6) (sym next) ∙ depth-there t long (i + 1) i (cellAt t 6 i + 1) here
-              ∙ add-one (cellAt t 6 i) ∙ ap suc (waiting .1 .0),
-          waiting-kept t (abovePut t (i + 1) i (cellAt t 6 i + 1)) (suc i + nodes x)
-              (λ k j h e. above-row t long (i + 1) i (cellAt t 6 i + 1) here k j h (omega arith))
+          ap (nodeCell (abovePut t (i + 1) i (nodeCell t 6 i + 1)) 6) (sym next) ∙ depth-there t long (i + 1) i (nodeCell t 6 i + 1) here
+              ∙ add-one (nodeCell t 6 i) ∙ ap suc (waiting .1 .0),
+          waiting-kept t (abovePut t (i + 1) i (nodeCell t 6 i + 1)) (suc i + nodes x)
+              (λ k j h e. above-row t long (i + 1) i (nodeCell t 6 i + 1) here k j h (omega arith))
               rest (suc i + nodes x) (omega arith) (omega arith) (subst (λ j. Waiting t j rest) (omega arith) (waiting .1 .1)),
         ),
       )
 
-  parts-down : (x y : Formula) (b c : ℕ) → nodes (n .what) ≡ suc (nodes x + nodes y) → cellAt t 3 (i + 1) ≡ suc i + nodes x
-      → Waiting (abovePut (abovePut t (i + 1) (cellAt t 4 i) (cellAt t 6 i)) (cellAt t 3 (i + 1)) (cellAt t 4 i) (cellAt t 6 i)) (suc i)
+  parts-down : (x y : Formula) (b c : ℕ) → nodes (n .what) ≡ suc (nodes x + nodes y) → nodeCell t 3 (i + 1) ≡ suc i + nodes x
+      → Waiting (abovePut (abovePut t (i + 1) (nodeCell t 4 i) (nodeCell t 6 i)) (nodeCell t 3 (i + 1)) (nodeCell t 4 i) (nodeCell t 6 i)) (suc i)
       (part n b x ∷ (part n c y ∷ rest))
   unfolding part
   parts-down x y b c size right =
       let left-nodes = nodes-positive x in
       let right-nodes = nodes-positive y in
-      let above = cellAt t 4 i in
-      let depth = cellAt t 6 i in
+      let above = nodeCell t 4 i in
+      let depth = nodeCell t 6 i in
       let u = abovePut t (i + 1) above depth in
-      let v = abovePut u (cellAt t 3 (i + 1)) above depth in
+      let v = abovePut u (nodeCell t 3 (i + 1)) above depth in
       let here : i + 1 < 1024 = omega arith in
-      let there : cellAt t 3 (i + 1) < 1024 = omega arith in
+      let there : nodeCell t 3 (i + 1) < 1024 = omega arith in
       let next : i + 1 ≡ suc i = add-one i in
       let long-u = above-size t long (i + 1) above depth here in
-      let first : (k : ℕ) → cellAt v k (suc i) ≡ cellAt u k (i + 1) =
-      λ k. above-row u long-u (cellAt t 3 (i + 1)) above depth there k (suc i) (omega arith) (omega arith) ∙ ap (cellAt u k) (sym next) in (
+      let first : (k : ℕ) → nodeCell v k (suc i) ≡ nodeCell u k (i + 1) =
+      λ k. above-row u long-u (nodeCell t 3 (i + 1)) above depth there k (suc i) (omega arith) (omega arith) ∙ ap (nodeCell u k) (sym next) in (
         first 4 ∙ above-there t long (i + 1) above depth here ∙ waiting .0,
         (
           first 6 ∙ depth-there t long (i + 1) above depth here ∙ waiting .1 .0,
           (
-            ap (cellAt v 4) (sym right) ∙ above-there u long-u (cellAt t 3 (i + 1)) above depth there ∙ waiting .0,
+            ap (nodeCell v 4) (sym right) ∙ above-there u long-u (nodeCell t 3 (i + 1)) above depth there ∙ waiting .0,
             (
-              ap (cellAt v 6) (sym right) ∙ depth-there u long-u (cellAt t 3 (i + 1)) above depth there ∙ waiting .1 .0,
+              ap (nodeCell v 6) (sym right) ∙ depth-there u long-u (nodeCell t 3 (i + 1)) above depth there ∙ waiting .1 .0,
               waiting-kept t v (suc i + nodes x + nodes y)
                   (λ k j h e.
-                  above-row u long-u (cellAt t 3 (i + 1)) above depth there k j h (omega arith)
+                  above-row u long-u (nodeCell t 3 (i + 1)) above depth there k j h (omega arith)
                   ∙ above-row t long (i + 1) above depth here k j h (omega arith))
                   rest (suc i + nodes x + nodes y) (omega arith) (omega arith) (subst (λ j. Waiting t j rest) (omega arith) (waiting .1 .1)),
             ),
@@ -172,19 +171,19 @@ module _ (t : List ℕ) (long : length t ≡ tableSize) (i : ℕ) (n : Node) (re
 -- The rows before i have what stands above them, and so have the nodes that wait.
 pub record Handed (row : List Node) (i n : ℕ) (before t : List ℕ) : Type 0 where
   pub size : length t ≡ length before
-  pub kept : (k j : ℕ) → k < 7 → (k ≡ 4 → ⊥) → (k ≡ 6 → ⊥) → j < n → cellAt t k j ≡ endedCell k j (nodeAt row j)
-  pub above : (j : ℕ) → j < i → cellAt t 4 j ≡ nodeAt row j .above
-  pub depth : (j : ℕ) → j < i → cellAt t 6 j ≡ length (nodeAt row j .pre)
+  pub kept : (k j : ℕ) → k < 7 → (k ≡ 4 → ⊥) → (k ≡ 6 → ⊥) → j < n → nodeCell t k j ≡ endedCell k j (nodeAt row j)
+  pub above : (j : ℕ) → j < i → nodeCell t 4 j ≡ nodeAt row j .above
+  pub depth : (j : ℕ) → j < i → nodeCell t 6 j ≡ length (nodeAt row j .pre)
   pub waiting : Waiting t i (after 0 i row)
-  pub others : (k j : ℕ) → j < 1024 → n ≤ j → cellAt t k j ≡ cellAt before k j
+  pub others : (k j : ℕ) → j < 1024 → n ≤ j → nodeCell t k j ≡ nodeCell before k j
 
-module _ (row : List Node) (i n : ℕ) (before t : List ℕ) (s : Handed row i n before t) (long : length t ≡ tableSize) (here : i < n) (few : n ≤ 1024)
+module _ (row : List Node) (i n : ℕ) (before t : List ℕ) (s : Handed row i n before t) (long : length t ≡ nodeTable) (here : i < n) (few : n ≤ 1024)
     (all : n ≡ countNodes row) where
-  here-kind : cellAt t 0 i ≡ kindOf (nodeAt row i .what)
+  here-kind : nodeCell t 0 i ≡ kindOf (nodeAt row i .what)
   unfolding endedCell
   here-kind = s .kept 0 i (omega arith) (omega arith) (omega arith) here
 
-  here-ends : (j : ℕ) → i < j → j < countNodes row → cellAt t 3 j ≡ j + nodes (nodeAt row j .what)
+  here-ends : (j : ℕ) → i < j → j < countNodes row → nodeCell t 3 j ≡ j + nodes (nodeAt row j .what)
   unfolding endedCell
   here-ends j h k = s .kept 3 j (omega arith) (omega arith) (omega arith) (omega arith)
 
@@ -198,7 +197,7 @@ module _ (row : List Node) (i n : ℕ) (before t : List ℕ) (s : Handed row i n
   pub down-reads : EndReads t i
   down-reads = node-reads row t i (omega arith) (omega arith) here-kind here-ends
 
-  pub down-depth : cellAt t 6 i ≡ length (nodeAt row i .pre)
+  pub down-depth : nodeCell t 6 i ≡ length (nodeAt row i .pre)
   down-depth = here-waits .1 .0
 
   size-told : (x : Formula) → nodeAt row i .what ≡ x → i + nodes x ≤ n
@@ -225,14 +224,14 @@ module _ (row : List Node) (i n : ℕ) (before t : List ℕ) (s : Handed row i n
       let within = size-told z e in
       let left-nodes = nodes-positive x in
       let right-nodes = nodes-positive y in
-      let right : cellAt t 3 (i + 1) ≡ suc i + nodes x =
-      ap (cellAt t 3) (add-one i) ∙ here-ends (suc i) (omega arith) (omega arith)
+      let right : nodeCell t 3 (i + 1) ≡ suc i + nodes x =
+      ap (nodeCell t 3) (add-one i) ∙ here-ends (suc i) (omega arith) (omega arith)
       ∙ ap (λ (m : Node). suc i + nodes (m .what)) l ∙ ap (λ w. suc i + nodes w) lw in
       let same = down-parts t i (omega (arith, here-kind, ap kindOf e)) (omega (arith, here-kind, ap kindOf e)) in
-      let once = down-put t i n (i + 1) (cellAt t 4 i) (cellAt t 6 i) long (omega arith) (omega arith) few in (
+      let once = down-put t i n (i + 1) (nodeCell t 4 i) (nodeCell t 6 i) long (omega arith) (omega arith) few in (
         subst (λ u. Down t u i n) same
-            (down-then t (abovePut t (i + 1) (cellAt t 4 i) (cellAt t 6 i)) _ i n once
-            (down-put (abovePut t (i + 1) (cellAt t 4 i) (cellAt t 6 i)) i n (cellAt t 3 (i + 1)) (cellAt t 4 i) (cellAt t 6 i) (once .long) (omega arith)
+            (down-then t (abovePut t (i + 1) (nodeCell t 4 i) (nodeCell t 6 i)) _ i n once
+            (down-put (abovePut t (i + 1) (nodeCell t 4 i) (nodeCell t 6 i)) i n (nodeCell t 3 (i + 1)) (nodeCell t 4 i) (nodeCell t 6 i) (once .long) (omega arith)
             (omega arith) few)),
         subst (λ u. Waiting u (suc i) (part (nodeAt row i) b x ∷ (part (nodeAt row i) c y ∷ drop 1 (after 0 i row)))) same
             (parts-down t long i (nodeAt row i) (drop 1 (after 0 i row)) here-fits here-kind here-waits x y b c (ap nodes e ∙ size) right),
@@ -246,7 +245,7 @@ module _ (row : List Node) (i n : ℕ) (before t : List ℕ) (s : Handed row i n
       let some-nodes = nodes-positive x in
       let big = quoted-high q x in
       let same = down-quoted t i (omega (arith, here-kind, ap kindOf e)) (omega (arith, here-kind, ap kindOf e)) in (
-        subst (λ u. Down t u i n) same (down-put t i n (i + 1) i (cellAt t 6 i + 1) long (omega arith) (omega arith) few),
+        subst (λ u. Down t u i n) same (down-put t i n (i + 1) i (nodeCell t 6 i + 1) long (omega arith) (omega arith) few),
         subst (λ u. Waiting u (suc i) (inner i (nodeAt row i) q x ∷ drop 1 (after 0 i row))) same
             (quoted-down t long i (nodeAt row i) (drop 1 (after 0 i row)) here-fits here-kind here-waits q x (ap nodes e)),
       )
@@ -274,16 +273,16 @@ module _ (row : List Node) (i n : ℕ) (before t : List ℕ) (s : Handed row i n
         others = λ k j there over. d .later k j there over ∙ s .others k j there over;
       }
     where
-      above-at : (j : ℕ) → j < i + 1 → Dec (j ≡ i) → cellAt t 4 j ≡ nodeAt row j .above
+      above-at : (j : ℕ) → j < i + 1 → Dec (j ≡ i) → nodeCell t 4 j ≡ nodeAt row j .above
       above-at j below (yes e) = rw e (here-waits .0)
       above-at j below (no apart) = s .above j (omega arith)
 
-      depth-at : (j : ℕ) → j < i + 1 → Dec (j ≡ i) → cellAt t 6 j ≡ length (nodeAt row j .pre)
+      depth-at : (j : ℕ) → j < i + 1 → Dec (j ≡ i) → nodeCell t 6 j ≡ length (nodeAt row j .pre)
       depth-at j below (yes e) = rw e (here-waits .1 .0)
       depth-at j below (no apart) = s .depth j (omega arith)
 
 -- Before the first node, and behind the last.
-roots-wait : (row : List Node) (t : List ℕ) (j : ℕ) → Each Outermost row → ((m : ℕ) → j ≤ m → m < j + countNodes row → (cellAt t 4 m ≡ none-above) × (cellAt t 6 m ≡ 0))
+roots-wait : (row : List Node) (t : List ℕ) (j : ℕ) → Each Outermost row → ((m : ℕ) → j ≤ m → m < j + countNodes row → (nodeCell t 4 m ≡ none-above) × (nodeCell t 6 m ≡ 0))
     → Waiting t j row
 unfolding countNodes
 roots-wait [] t j top none-yet = tt
@@ -297,7 +296,7 @@ roots-wait (n ∷ row) t j top none-yet =
       ),
     )
 
-handed-begin : (file : List ℕ) (n : ℕ) (before t : List ℕ) → n ≡ countNodes (nodesOf file) → Held (nodesOf file) endedCell n before t
+handed-begin : (file : List ℕ) (n : ℕ) (before t : List ℕ) → n ≡ countNodes (nodesOf file) → RowsAre (nodesOf file) endedCell n before t
     → Handed (nodesOf file) 0 n before t
 unfolding after endedCell nodesOf
 handed-begin file n before t all held =
@@ -312,11 +311,11 @@ handed-begin file n before t all held =
       others = held .others;
     }
 
-handed-over : (row : List Node) (i n : ℕ) (before t : List ℕ) → Handed row i n before t → n ≤ i → Held row nodeCell n before t
-unfolding endedCell nodeCell
+handed-over : (row : List Node) (i n : ℕ) (before t : List ℕ) → Handed row i n before t → n ≤ i → RowsAre row nodeValue n before t
+unfolding endedCell nodeValue
 handed-over row i n before t s over = record { size = s .size; cells = by-column; others = s .others }
   where
-    by-column : (k j : ℕ) → k < 7 → j < n → cellAt t k j ≡ nodeCell k j (nodeAt row j)
+    by-column : (k j : ℕ) → k < 7 → j < n → nodeCell t k j ≡ nodeValue k j (nodeAt row j)
     by-column zero j column below = s .kept 0 j column (omega arith) (omega arith) below
     by-column (suc zero) j column below = s .kept 1 j column (omega arith) (omega arith) below
     by-column (suc (suc zero)) j column below = s .kept 2 j column (omega arith) (omega arith) below
@@ -328,16 +327,16 @@ handed-over row i n before t s over = record { size = s .size; cells = by-column
 
 -- The way through the table: whatever file it held, what stands above is handed down so far.
 pub record AboveTo (start : List ℕ) (count : ℕ) (t : List ℕ) (i : ℕ) : Type 0 where
-  pub long : length t ≡ tableSize
+  pub long : length t ≡ nodeTable
   pub below : i ≤ count
-  pub passes : (file before : List ℕ) → count ≡ countNodes (nodesOf file) → Held (nodesOf file) endedCell count before start
+  pub passes : (file before : List ℕ) → count ≡ countNodes (nodesOf file) → RowsAre (nodesOf file) endedCell count before start
       → Handed (nodesOf file) i count before t
 
 pub above-begin : (t : List ℕ) (count : ℕ) → Holding endedCell t count → AboveTo t count t 0
 above-begin t count h =
     record { long = h .long; below = omega arith; passes = λ file before all held. handed-begin file count before t all held }
 
-pub above-over : (start : List ℕ) (count : ℕ) (t : List ℕ) (i : ℕ) → AboveTo start count t i → count ≤ i → Passes endedCell nodeCell count start t
+pub above-over : (start : List ℕ) (count : ℕ) (t : List ℕ) (i : ℕ) → AboveTo start count t i → count ≤ i → Passes endedCell nodeValue count start t
 above-over start count t i s over =
     λ file before all held. handed-over (nodesOf file) i count before t (s .passes file before all held) over
 
@@ -351,7 +350,7 @@ module _ (start : List ℕ) (count : ℕ) (h : Holding endedCell start count) (t
   pub forth-reads : EndReads t i
   forth-reads = down-reads (nodesOf (h .file)) i count (h .before) t now-handed (s .long) here (h .few) (h .counted)
 
-  pub forth-depth : cellAt t 6 i < 1024
+  pub forth-depth : nodeCell t 6 i < 1024
   unfolding nodesOf
   forth-depth =
       omega (

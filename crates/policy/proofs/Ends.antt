@@ -11,46 +11,45 @@ use lib.ListN.{length}
 use lib.Dec.{ltb}
 use borrow.Author.Tests.{lt-ltb, le-ltb}
 use Rattle.infon.specs.Formula.{Formula, True, name, and, implies, quoted, nodes}
-use Rattle.nodes.specs.Nodes.{Node, part, inner, nodeAt, countNodes, kindOf, nodesOf}
+use Rattle.nodes.specs.Nodes.{Node, part, inner, nodeAt, countNodes, kindOf, nodesOf, nodeTable, nodeCell, withNodeCell}
 use Rattle.nodes.proofs.Order.{nodes-positive, node-within, and-left, and-right, implies-left, implies-right, quoted-inner, quoted-high}
-use Rattle.policy.specs.Filling
-use Rattle.policy.specs.Filling.{tableSize, cellAt, firstCell, endedCell, Held, Holding, Passes, endFrom, EndReads}
+use Rattle.policy.specs.Filling.{firstCell, endedCell, RowsAre, Holding, Passes, endFrom, EndReads}
 use Rattle.policy.proofs.Cells.{put-same, put-size, put-row, put-column}
 
 -- What the code's tests say.
 module _ (t : List ℕ) (i : ℕ) where
-  pub end-leaf : cellAt t 0 i < 2 → i + 1 ≡ endFrom t i
+  pub end-leaf : nodeCell t 0 i < 2 → i + 1 ≡ endFrom t i
   unfolding endFrom
-  end-leaf h = rw (lt-ltb (cellAt t 0 i) 2 h)
+  end-leaf h = rw (lt-ltb (nodeCell t 0 i) 2 h)
 
-  pub end-quoted : 2 ≤ cellAt t 0 i → 3 < cellAt t 0 i → cellAt t 3 (i + 1) ≡ endFrom t i
+  pub end-quoted : 2 ≤ nodeCell t 0 i → 3 < nodeCell t 0 i → nodeCell t 3 (i + 1) ≡ endFrom t i
   unfolding endFrom
-  end-quoted h k = rw (le-ltb (cellAt t 0 i) 2 h, lt-ltb 3 (cellAt t 0 i) k)
+  end-quoted h k = rw (le-ltb (nodeCell t 0 i) 2 h, lt-ltb 3 (nodeCell t 0 i) k)
 
-  pub end-parts : 2 ≤ cellAt t 0 i → cellAt t 0 i ≤ 3 → cellAt t 3 (cellAt t 3 (i + 1)) ≡ endFrom t i
+  pub end-parts : 2 ≤ nodeCell t 0 i → nodeCell t 0 i ≤ 3 → nodeCell t 3 (nodeCell t 3 (i + 1)) ≡ endFrom t i
   unfolding endFrom
-  end-parts h k = rw (le-ltb (cellAt t 0 i) 2 h, le-ltb 3 (cellAt t 0 i) k)
+  end-parts h k = rw (le-ltb (nodeCell t 0 i) 2 h, le-ltb 3 (nodeCell t 0 i) k)
 
 -- A node of a row whose kind is in the table, with the ends of all nodes behind it.
 module _ (row : List Node) (t : List ℕ) (i : ℕ) (here : i < countNodes row) (few : countNodes row ≤ 1024)
-    (kind : cellAt t 0 i ≡ kindOf (nodeAt row i .what))
-    (ends : (j : ℕ) → i < j → j < countNodes row → cellAt t 3 j ≡ j + nodes (nodeAt row j .what)) where
+    (kind : nodeCell t 0 i ≡ kindOf (nodeAt row i .what))
+    (ends : (j : ℕ) → i < j → j < countNodes row → nodeCell t 3 j ≡ j + nodes (nodeAt row j .what)) where
   size-told : (x : Formula) → nodeAt row i .what ≡ x → i + nodes x ≤ countNodes row
   size-told x e = subst (λ y. i + nodes y ≤ countNodes row) e (node-within row i here)
 
-  first-end : (x : Formula) (p : Node) → nodeAt row (suc i) ≡ p → p .what ≡ x → suc i < countNodes row → cellAt t 3 (i + 1) ≡ suc i + nodes x
+  first-end : (x : Formula) (p : Node) → nodeAt row (suc i) ≡ p → p .what ≡ x → suc i < countNodes row → nodeCell t 3 (i + 1) ≡ suc i + nodes x
   first-end x p e w h =
-      ap (cellAt t 3) (add-one i) ∙ ends (suc i) (omega arith) h ∙ ap (λ (n : Node). suc i + nodes (n .what)) e ∙ ap (λ y. suc i + nodes y) w
+      ap (nodeCell t 3) (add-one i) ∙ ends (suc i) (omega arith) h ∙ ap (λ (n : Node). suc i + nodes (n .what)) e ∙ ap (λ y. suc i + nodes y) w
 
   -- An operator's two parts.
   module _ (x y : Formula) (left right : Node) (l : nodeAt row (suc i) ≡ left) (lw : left .what ≡ x)
       (r : nodeAt row (suc i + nodes x) ≡ right) (rw′ : right .what ≡ y) (within : i + suc (nodes x + nodes y) ≤ countNodes row) where
-    parts-first : cellAt t 3 (i + 1) ≡ suc i + nodes x
+    parts-first : nodeCell t 3 (i + 1) ≡ suc i + nodes x
     parts-first = first-end x left l lw (omega (arith, nodes-positive x, nodes-positive y))
 
-    parts-end : cellAt t 3 (cellAt t 3 (i + 1)) ≡ i + suc (nodes x + nodes y)
+    parts-end : nodeCell t 3 (nodeCell t 3 (i + 1)) ≡ i + suc (nodes x + nodes y)
     parts-end =
-        ap (cellAt t 3) parts-first ∙ ends (suc i + nodes x) (omega arith) (omega (arith, nodes-positive y))
+        ap (nodeCell t 3) parts-first ∙ ends (suc i + nodes x) (omega arith) (omega (arith, nodes-positive y))
         ∙ ap (λ (n : Node). suc i + nodes x + nodes (n .what)) r ∙ ap (λ z. suc i + nodes x + nodes z) rw′ ∙ regroup
       where
         regroup : suc i + nodes x + nodes y ≡ i + suc (nodes x + nodes y)
@@ -63,7 +62,7 @@ module _ (row : List Node) (t : List ℕ) (i : ℕ) (here : i < countNodes row) 
           second = λ h k. omega (arith, parts-first, nodes-positive y);
         }
 
-    parts-told : 2 ≤ cellAt t 0 i → cellAt t 0 i ≤ 3 → endFrom t i ≡ i + suc (nodes x + nodes y)
+    parts-told : 2 ≤ nodeCell t 0 i → nodeCell t 0 i ≤ 3 → endFrom t i ≡ i + suc (nodes x + nodes y)
     parts-told h k = sym (end-parts t i h k) ∙ parts-end
 
   abbrev Known : Formula → Type 0
@@ -135,13 +134,13 @@ mixed-same i k j n apart = by-place (decLt j i)
     by-place (yes h) = mixed-below (i + 1) k j n (omega arith) ∙ sym (mixed-below i k j n h)
     by-place (no h) = mixed-above (i + 1) k j n (omega arith) ∙ sym (mixed-above i k j n (omega arith))
 
-module _ (row : List Node) (n : ℕ) (before t : List ℕ) (i : ℕ) (held : Held row (mixedCell (i + 1)) n before t) (here : i < n) (few : n ≤ 1024)
+module _ (row : List Node) (n : ℕ) (before t : List ℕ) (i : ℕ) (held : RowsAre row (mixedCell (i + 1)) n before t) (here : i < n) (few : n ≤ 1024)
     (all : n ≡ countNodes row) where
-  mixed-kind : cellAt t 0 i ≡ kindOf (nodeAt row i .what)
+  mixed-kind : nodeCell t 0 i ≡ kindOf (nodeAt row i .what)
   unfolding firstCell
   mixed-kind = held .cells 0 i (omega arith) here ∙ mixed-below (i + 1) 0 i (nodeAt row i) (omega arith)
 
-  mixed-ends : (j : ℕ) → i < j → j < countNodes row → cellAt t 3 j ≡ j + nodes (nodeAt row j .what)
+  mixed-ends : (j : ℕ) → i < j → j < countNodes row → nodeCell t 3 j ≡ j + nodes (nodeAt row j .what)
   unfolding endedCell
   mixed-ends j h k = held .cells 3 j (omega arith) (omega arith) ∙ mixed-above (i + 1) 3 j (nodeAt row j) (omega arith)
 
@@ -154,8 +153,8 @@ module _ (row : List Node) (n : ℕ) (before t : List ℕ) (i : ℕ) (held : Hel
   pub ends-within : endFrom t i ≤ n
   ends-within = omega (arith, ends-told, node-within row i (omega arith))
 
-  module _ (long : length t ≡ tableSize) (end : ℕ) (e : end ≡ endFrom t i) where
-    by-cell : (k j : ℕ) → k < 7 → j < n → Dec (j ≡ i) → Dec (k ≡ 3) → cellAt (Filling.put t 3 i end) k j ≡ mixedCell i k j (nodeAt row j)
+  module _ (long : length t ≡ nodeTable) (end : ℕ) (e : end ≡ endFrom t i) where
+    by-cell : (k j : ℕ) → k < 7 → j < n → Dec (j ≡ i) → Dec (k ≡ 3) → nodeCell (withNodeCell t 3 i end) k j ≡ mixedCell i k j (nodeAt row j)
     unfolding endedCell
     by-cell k j column below (yes same) (yes three) =
         rw (same, three)
@@ -167,7 +166,7 @@ module _ (row : List Node) (n : ℕ) (before t : List ℕ) (i : ℕ) (held : Hel
     by-cell k j column below (no apart) d =
         put-row t 3 i end k j (omega arith) (omega arith) apart ∙ held .cells k j column below ∙ mixed-same i k j (nodeAt row j) apart
 
-    pub ends-held : Held row (mixedCell i) n before (Filling.put t 3 i end)
+    pub ends-held : RowsAre row (mixedCell i) n before (withNodeCell t 3 i end)
     ends-held =
         record {
           size = put-size t long 3 i end (omega arith) (omega arith) ∙ sym long ∙ held .size;
@@ -177,7 +176,7 @@ module _ (row : List Node) (n : ℕ) (before t : List ℕ) (i : ℕ) (held : Hel
 
 -- The way back through the table: whatever file it held, the rows from i on have their ends.
 pub record EndsTo (first : List ℕ) (count : ℕ) (t : List ℕ) (i : ℕ) : Type 0 where
-  pub long : length t ≡ tableSize
+  pub long : length t ≡ nodeTable
   pub below : i ≤ count
   pub passes : Passes firstCell (mixedCell i) count first t
 
@@ -205,11 +204,11 @@ ends-over first count t i s h =
     }
 
 module _ (first : List ℕ) (count : ℕ) (start : Holding firstCell first count) (t : List ℕ) (i : ℕ) (s : EndsTo first count t i) (j : ℕ) (e : i ≡ j + 1) where
-  here-held : (file before : List ℕ) → count ≡ countNodes (nodesOf file) → Held (nodesOf file) firstCell count before first
-      → Held (nodesOf file) (mixedCell (j + 1)) count before t
-  here-held file before all held = subst (λ m. Held (nodesOf file) (mixedCell m) count before t) e (s .passes file before all held)
+  here-held : (file before : List ℕ) → count ≡ countNodes (nodesOf file) → RowsAre (nodesOf file) firstCell count before first
+      → RowsAre (nodesOf file) (mixedCell (j + 1)) count before t
+  here-held file before all held = subst (λ m. RowsAre (nodesOf file) (mixedCell m) count before t) e (s .passes file before all held)
 
-  now-held : Held (nodesOf (start .file)) (mixedCell (j + 1)) count (start .before) t
+  now-held : RowsAre (nodesOf (start .file)) (mixedCell (j + 1)) count (start .before) t
   now-held = here-held (start .file) (start .before) (start .counted) (start .held)
 
   pub back-here : j < 1024
@@ -222,12 +221,12 @@ module _ (first : List ℕ) (count : ℕ) (start : Holding firstCell first count
   back-small =
       omega (arith, start .few, ends-within (nodesOf (start .file)) count (start .before) t j now-held (omega (arith, s .below)) (start .few) (start .counted))
 
-  pub back-turn : (end : ℕ) → end ≡ endFrom t j → (after : List ℕ) → after ≡ Filling.put t 3 j end → EndsTo first count after j
+  pub back-turn : (end : ℕ) → end ≡ endFrom t j → (after : List ℕ) → after ≡ withNodeCell t 3 j end → EndsTo first count after j
   back-turn end told after stored =
       record {
         long = ap length stored ∙ put-size t (s .long) 3 j end (omega arith) back-here;
         below = omega (arith, s .below);
         passes = λ file before all held.
-            subst (Held (nodesOf file) (mixedCell j) count before) (sym stored)
+            subst (RowsAre (nodesOf file) (mixedCell j) count before) (sym stored)
             (ends-held (nodesOf file) count before t j (here-held file before all held) (omega (arith, s .below)) (start .few) all (s .long) end told);
       }

@@ -1,4 +1,3 @@
-pub mod Feeds
 pub mod Spots
 pub mod Verdicts
 pub mod Cells

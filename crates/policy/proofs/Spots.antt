@@ -16,7 +16,9 @@ use lib.Dec.{leb, eqb}
 use borrow.Author.Tests.{leb-true, lt-ltb, le-ltb, eq-eqb, ne-eqb}
 use Rattle.infon.specs.Bytes.{bytes, space, lineFeed, alike, every}
 use Rattle.infon.specs.Formula.{Told, said, put, Formula, True, name, and, implies, quoted, isNameByte, isName, isNamed, letterOf, words, joined, spelling}
-use Rattle.infon.specs.Policy.{entriesOf, passed, refused, when, code2, mostNodes, code3}
+use Rattle.infon.specs.declared.Verdict.the-variants.{Passed, Refused}
+use Rattle.infon.specs.Codes.{when}
+use Rattle.infon.specs.Policy.{entriesOf, code2, mostNodes, code3}
 use Rattle.infon.proofs.Rows.{and-true, true-and, or-false-both}
 use Rattle.infon.proofs.Words.{lacks}
 use Rattle.infon.proofs.Readable.{unlike-name}
@@ -187,7 +189,7 @@ spot-forward file end line =
     [ true ↦ omega arith | false ↦ omega arith ]
 
 -- The walk begins at the third byte.
-pub walk-begin : (file : List ℕ) → code2 file ≡ passed → Chain file 2 0 (after 0 0 (nodesOf file))
+pub walk-begin : (file : List ℕ) → code2 file ≡ Passed → Chain file 2 0 (after 0 0 (nodesOf file))
 unfolding after
 walk-begin file formed = file-chain file formed
 
@@ -259,12 +261,12 @@ module _ (file : List ℕ) (at line i : ℕ) (few : i ≤ countNodes (nodesOf fi
       walk-later s same = omega (arith, ap (λ (t : Spot). t .at) same, spot-forward file end line, walk-end, walk-forward)
 
     -- code 3 at the node after the last that is allowed
-    pub many-nodes : i ≡ mostNodes → code3 (entriesOf file) ≡ refused 3 line
+    pub many-nodes : i ≡ mostNodes → code3 (entriesOf file) ≡ Refused 3 line
     unfolding nodesOf when
     many-nodes e =
         code3-node (entriesOf file)
         ∙ rw (lt-ltb mostNodes (countNodes (nodesOf file)) (omega (arith, walk-here)), ← e, walk-line)
 
-  pub few-nodes : length file ≤ at → i ≤ mostNodes → code3 (entriesOf file) ≡ passed
+  pub few-nodes : length file ≤ at → i ≤ mostNodes → code3 (entriesOf file) ≡ Passed
   unfolding nodesOf when
   few-nodes over most = code3-node (entriesOf file) ∙ rw (le-ltb mostNodes (countNodes (nodesOf file)) (omega (arith, walk-over over)))

@@ -9,8 +9,9 @@ use lib.ListN.{length, getD}
 use lib.Dec.{eqb}
 use Rattle.infon.specs.Bytes.{space}
 use Rattle.infon.specs.Formula.{Told, said, put, Formula, True, name, and, implies, quoted}
-use Rattle.infon.specs.Policy.{entriesOf, passed, code2, code3, mostNodes}
-use Rattle.nodes.specs.Nodes.{after, nodeAt, countNodes, kindOf, ownBytes, nodesOf}
+use Rattle.infon.specs.declared.Verdict.the-variants.{Passed}
+use Rattle.infon.specs.Policy.{entriesOf, code2, code3, mostNodes}
+use Rattle.nodes.specs.Nodes.{after, nodeAt, countNodes, kindOf, ownBytes, nodesOf, nodeTable}
 use Rattle.nodes.proofs.Spelled.{Chain}
 use Rattle.nodes.proofs.Codes.{code3-few}
 use Rattle.spelling.specs.declared.Parsed.{Parsed}
@@ -18,7 +19,7 @@ use Rattle.spelling.specs.declared.Parsed.the-variants.{True as aTrue, Name as 
 use Rattle.spelling.specs.Parsing.{parsedAt}
 use Rattle.policy.specs.declared.walk.Spot.{Spot}
 use Rattle.policy.specs.Walking.{behindOwn, nextSpot}
-use Rattle.policy.specs.Filling.{tableSize, kindNumber, spotted, firstCell, Held, Begun}
+use Rattle.policy.specs.Filling.{kindNumber, spotted, firstCell, RowsAre, Begun}
 use Rattle.policy.proofs.Spots.{isSaid, parsedOf, walk-begin, walk-over, walk-here, walk-place, walk-line, walk-parsed, walk-end, walk-forward, walk-within, walk-on, walk-later}
 use Rattle.policy.proofs.Cells.{none-held, spotted-held, spotted-size}
 
@@ -68,10 +69,10 @@ pub record SpotsTo (file before t : List ℕ) (at line i : ℕ) : Type 0 where
   pub most : countNodes (nodesOf file) ≤ 1024
   pub chain : Chain file at line (after 0 i (nodesOf file))
   pub ahead : line < at
-  pub long : length t ≡ tableSize
-  pub held : Held (nodesOf file) firstCell i before t
+  pub long : length t ≡ nodeTable
+  pub held : RowsAre (nodesOf file) firstCell i before t
 
-pub spots-begin : (file t : List ℕ) → code2 file ≡ passed → code3 (entriesOf file) ≡ passed → length t ≡ tableSize → SpotsTo file t t 2 0 0
+pub spots-begin : (file t : List ℕ) → code2 file ≡ Passed → code3 (entriesOf file) ≡ Passed → length t ≡ nodeTable → SpotsTo file t t 2 0 0
 unfolding mostNodes nodesOf
 spots-begin file t formed counted long =
     record {
@@ -119,7 +120,7 @@ module _ (file before t : List ℕ) (at line i : ℕ) (s : SpotsTo file before t
                 subst (λ (p : Spot). p .line < p .at) (sym g) (spot-ahead file end line (omega (arith, s .ahead, spots-end .0)));
             long = ap length stored ∙ spotted-size t (s .long) i spots-here kind at (end - at) line;
             held =
-                subst (Held (nodesOf file) firstCell (i + 1) before) (sym stored)
+                subst (RowsAre (nodesOf file) firstCell (i + 1) before) (sym stored)
                 (spotted-held (nodesOf file) before t i (s .held) (s .long) spots-here kind at (end - at) line kinds
                 (sym (walk-place file at line i (s .few) (s .chain) inside)) owns (sym (walk-line file at line i (s .few) (s .chain) inside)));
           }

@@ -1,55 +1,44 @@
--- Codes tried one after the other: which of them is given.
+-- The first codes, tried one after the other: which of them is given.
 -- Assumes nothing.
 use Prim.Native.Nat.{ℕ, _≤_, _<_}
-use native.Mathlib.Omega.{arith}
-use mathlib.Core.Path.{_≡_, refl}
-use mathlib.Core.List.{List}
+use mathlib.Core.Path.{_≡_, sym, _∙_}
+use mathlib.Core.List.{List, [], _∷_}
 use lib.ListN.{length}
 use lib.Dec.{ltb}
 use borrow.Author.Tests.{lt-ltb, le-ltb, ltb-false}
-use Rattle.infon.specs.Policy
-use Rattle.infon.specs.Policy.{entriesOf, passed, refused, when, andThen, mostBytes, code1, code2, code3}
-use Rattle.infon.proofs.Cuts.{andThen-passed, when-passed}
-use Rattle.policy.specs.declared.Verdict.the-variants.{Passed, Refused}
-use Rattle.policy.specs.Codes.{verdictOf}
+use Rattle.infon.specs.declared.Verdict.the-variants.{Passed, Refused}
+use Rattle.infon.specs.Codes.{andThen, tried}
+use Rattle.infon.specs.Policy.{entriesOf, mostBytes, code1, code2, code3}
+use Rattle.infon.proofs.Tried.{andThen-passed, when-passed, when-true, when-false, pass-on, stop-at, andThen-end}
+use Rattle.policy.specs.Codes.{firstCodes}
 
-pub was-passed : (v : Policy.Verdict) → verdictOf v ≡ Passed → v ≡ passed
-unfolding verdictOf
-was-passed passed e = refl
-was-passed (refused code place) e = let z : _≡_ {A = ℕ} 0 1 = cc in absurd (omega arith)
+module _ (file : List ℕ) where
+  pub check-long : 32768 < length file → Refused 1 0 ≡ tried (firstCodes file)
+  unfolding tried firstCodes code1 mostBytes
+  check-long h =
+      sym (stop-at (when-true (ltb 32768 (length file)) 1 0 (lt-ltb 32768 (length file) h)) (tried (code2 file ∷ (code3 (entriesOf file) ∷ []))))
 
-pub was-refused : (v : Policy.Verdict) (code place : ℕ) → verdictOf v ≡ Refused code place → v ≡ refused code place
-unfolding verdictOf
-was-refused passed code place e = let z : _≡_ {A = ℕ} 0 1 = cc in absurd (omega arith)
-was-refused (refused c p) code place e = cc
+  module _ (short : length file ≤ 32768) where
+    check-short : tried (firstCodes file) ≡ tried (code2 file ∷ (code3 (entriesOf file) ∷ []))
+    unfolding tried firstCodes code1 mostBytes
+    check-short =
+        pass-on (when-false (ltb 32768 (length file)) 1 0 (le-ltb 32768 (length file) short)) (tried (code2 file ∷ (code3 (entriesOf file) ∷ [])))
 
-module _ (file : List ℕ) (later : Policy.Verdict) where
-  pub check-long : 32768 < length file → Refused 1 0 ≡ verdictOf (andThen (code1 file) later)
-  unfolding verdictOf andThen code1 when mostBytes
-  check-long h = rw (lt-ltb 32768 (length file) h)
+    pub check-lines : (code place : ℕ) → code2 file ≡ Refused code place → Refused code place ≡ tried (firstCodes file)
+    unfolding tried
+    check-lines code place e = sym (check-short ∙ stop-at e (tried (code3 (entriesOf file) ∷ [])))
 
-  check-short : length file ≤ 32768 → andThen (code1 file) later ≡ later
-  unfolding andThen code1 when mostBytes
-  check-short h = rw (le-ltb 32768 (length file) h)
+    pub check-nodes : code2 file ≡ Passed → code3 (entriesOf file) ≡ tried (firstCodes file)
+    unfolding tried
+    check-nodes e = sym (check-short ∙ pass-on e (tried (code3 (entriesOf file) ∷ [])) ∙ andThen-end (code3 (entriesOf file)))
 
-module _ (file : List ℕ) (short : length file ≤ 32768) where
-  pub check-lines : (code place : ℕ) → verdictOf (code2 file) ≡ Refused code place
-      → Refused code place ≡ verdictOf (andThen (code1 file) (andThen (code2 file) (code3 (entriesOf file))))
-  unfolding verdictOf andThen
-  check-lines code place e =
-      rw (check-short file (andThen (code2 file) (code3 (entriesOf file))) short, was-refused (code2 file) code place e)
-
-  pub check-nodes : code2 file ≡ passed
-      → verdictOf (code3 (entriesOf file)) ≡ verdictOf (andThen (code1 file) (andThen (code2 file) (code3 (entriesOf file))))
-  unfolding andThen
-  check-nodes e = rw (check-short file (andThen (code2 file) (code3 (entriesOf file))) short, e)
-
--- what a file that passes is known to be
-pub check-passed : (file : List ℕ) → verdictOf (andThen (code1 file) (andThen (code2 file) (code3 (entriesOf file)))) ≡ Passed
-    → (length file ≤ 32768) × ((code2 file ≡ passed) × (code3 (entriesOf file) ≡ passed))
-unfolding mostBytes code1
-check-passed file h =
-    let later = andThen (code2 file) (code3 (entriesOf file)) in
-    let first = andThen-passed (code1 file) later (was-passed (andThen (code1 file) later) h) in
-    let second = andThen-passed (code2 file) (code3 (entriesOf file)) (first .1) in
-    (ltb-false mostBytes (length file) (when-passed (ltb mostBytes (length file)) 1 0 (first .0)), second)
+  -- what a file that passes is known to be
+  pub check-passed : tried (firstCodes file) ≡ Passed → (length file ≤ 32768) × ((code2 file ≡ Passed) × (code3 (entriesOf file) ≡ Passed))
+  unfolding tried firstCodes code1 mostBytes
+  check-passed h =
+      let last = andThen (code3 (entriesOf file)) Passed in
+      let first = andThen-passed (code1 file) (andThen (code2 file) last) h in
+      let second = andThen-passed (code2 file) last (first .1) in (
+        ltb-false 32768 (length file) (when-passed (ltb 32768 (length file)) 1 0 (first .0)),
+        (second .0, andThen-passed (code3 (entriesOf file)) Passed (second .1) .0),
+      )

@@ -1,9 +1,8 @@
--- The code's verdict for the paper's: the same code and the same place.
-use Rattle.infon.specs.Policy.{passed, refused}
-use Rattle.infon.specs.Policy
-use Rattle.policy.specs.declared.Verdict.{Verdict}
-use Rattle.policy.specs.declared.Verdict.the-variants.{Passed, Refused}
+-- The codes that are tried before the table of nodes is filled.
+use Prim.Native.Nat.{ℕ}
+use mathlib.Core.List.{List, [], _∷_}
+use Rattle.infon.specs.declared.Verdict.{Verdict}
+use Rattle.infon.specs.Policy.{entriesOf, code1, code2, code3}
 
-unfoldable pub verdictOf : Policy.Verdict → Verdict
-verdictOf passed = Passed
-verdictOf (refused code place) = Refused code place
+unfoldable pub firstCodes : List ℕ → List Verdict
+firstCodes file = code1 file ∷ (code2 file ∷ (code3 (entriesOf file) ∷ []))

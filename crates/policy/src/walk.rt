@@ -1,11 +1,11 @@
 // From node to node through a file whose lines are well formed, and code 3.
-use super::Verdict;
+use infon::Verdict;
 use spelling::Parsed;
 ghost use mathlib.Core.Path.{_≡_};
 ghost use Prim.Native.Nat.{_<_};
 ghost use lib.ListN.{length};
-ghost use Rattle.infon.specs.Policy.{entriesOf, passed, code2, code3};
-ghost use Rattle.policy.specs.Codes.{verdictOf};
+ghost use Rattle.infon.specs.declared.Verdict.the-variants.{Passed};
+ghost use Rattle.infon.specs.Policy.{entriesOf, code2, code3};
 ghost use Rattle.policy.specs.Walking.{behindOwn, nextSpot};
 
 const MOST_NODES: usize = 1024;
@@ -52,8 +52,8 @@ pub fn next_spot(file: &[u8], end: usize, line: usize) -> Spot
 
 // Code 3: over 1,024 nodes in the file. Its place is the start of the line with node 1,025.
 pub fn too_many(file: &[u8]) -> Verdict
-    requires { ⌜ code2 (now file) ≡ passed ⌝ }
-    ensures { λ r. ⌜ r ≡ verdictOf (code3 (entriesOf (now (file .entry)))) ⌝ }
+    requires { ⌜ code2 (now file) ≡ Passed ⌝ }
+    ensures { λ r. ⌜ r ≡ code3 (entriesOf (now (file .entry))) ⌝ }
 {
     let mut at: usize = 2;
     let mut line: usize = 0;

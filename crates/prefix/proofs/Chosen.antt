@@ -10,8 +10,8 @@ use lib.ListN.{length, getD, length-map, List·getD-map}
 use lib.Pow.{pow-mono}
 use Rattle.infon.specs.Formula.{Told, said, put, Quotation, Formula}
 use Rattle.infon.specs.Listing.{Prefix, wrap, weakerTold, inside, insideEach, weakerPrefixes, weakened}
-use Rattle.table.specs.Table.{putBit, putMask, allPut}
-use Rattle.table.proofs.Weakened.{mask-below, allPut-length}
+use Rattle.formulas.specs.Table.{putBit, putMask, allPut}
+use Rattle.formulas.proofs.Weakened.{mask-below, allPut-length}
 use Rattle.prefix.specs.Places.{branches, laterBits}
 use Rattle.prefix.specs.Weaker.{isSaid, loweredTold, weakerCount, choose, inwards}
 

@@ -7,10 +7,11 @@ use native.Mathlib.Omega.{arith}
 use mathlib.Core.Path.{_≡_, refl, sym, _∙_, ap, subst}
 use mathlib.Core.Bool.{Bool, true, false}
 use mathlib.Core.List.{List, [], _∷_, _++_, append-assoc, append-nil}
-use lib.ListN.{length, getD, take, drop, set, replicate, length-set, length-take, length-drop, take-append-drop}
+use lib.ListN.{length, getD, take, drop, set, replicate, length-set, length-take, length-drop, take-append-drop, drop-of-length-le}
+use lib.Dec.{eqb}
 use lib.Pow.{pow-mono}
 use lib.Seq.{getD-drop, drop-cons, take-suc-set, drop-set-lt, drop-drop, getD-take, length-take-le}
-use lib.ListN.{drop-of-length-le}
+use Rattle.nodes.specs.Nodes.{nodeKind, nodeAbove, nodeDepth, nodeCell}
 use Rattle.prefix.specs.declared.Place.{Place}
 use Rattle.prefix.specs.declared.Prefix.{Prefix}
 use Rattle.prefix.specs.Places.{blank, placeAt, upFrom, prefixAt, Climbs, Readable, branches, weakerCountOf, lowered, laterBits, chosen, putWeight, putsOf}
@@ -24,17 +25,19 @@ pub record Climbed (t : List ℕ) (count : ℕ) (whole places : List Place) (abo
   pub blanks : drop k places ≡ replicate (4 - k) blank
 
 module _ (t : List ℕ) (i : ℕ) (readable : Readable t i) where
-  pub climb-begins : Climbed t (getD t (6 * 1024 + i) 0) (prefixAt t i .places) (replicate 4 blank) (getD t (4 * 1024 + i) 0) 0
+  pub climb-begins : {count above : ℕ} → count ≡ nodeCell t nodeDepth i → above ≡ nodeCell t nodeAbove i
+      → Climbed t count (prefixAt t i .places) (replicate 4 blank) above 0
   unfolding prefixAt
-  climb-begins =
-      let e : getD t (6 * 1024 + i) 0 ≡ getD t (6 * 1024 + i) 0 - 0 = omega arith in
-      record {
+  climb-begins depth up =
+      let e : nodeCell t nodeDepth i ≡ nodeCell t nodeDepth i - 0 = omega arith in
+      rw (depth, up)
+      (record {
         so-far = omega arith;
         full = refl;
-        ahead = subst (λ (n : ℕ). Climbs t n (getD t (4 * 1024 + i) 0)) e (readable .climbs);
+        ahead = subst (λ (n : ℕ). Climbs t n (nodeCell t nodeAbove i)) e (readable .climbs);
         rest = rw (← e);
         blanks = refl;
-      }
+      })
 
 module _ (t : List ℕ) (count : ℕ) (whole places : List Place) (above k : ℕ) (so : Climbed t count whole places above k) where
   pub climb-row : k < count → above < 1024
@@ -46,7 +49,7 @@ module _ (t : List ℕ) (count : ℕ) (whole places : List Place) (above k : ℕ
   climb-places h few = take-suc-set places k (placeAt t above) (omega (arith, so .full))
 
   climb-rest : k < count → count ≤ 4
-      → take k places ++ (placeAt t above ∷ []) ++ (upFrom t (count - (k + 1)) (getD t (4 * 1024 + above) 0) ++ replicate (4 - count) blank) ≡ whole
+      → take k places ++ (placeAt t above ∷ []) ++ (upFrom t (count - (k + 1)) (nodeCell t nodeAbove above) ++ replicate (4 - count) blank) ≡ whole
   unfolding upFrom
   climb-rest h few =
       let e : count - k ≡ suc (count - (k + 1)) = omega arith in
@@ -60,9 +63,8 @@ module _ (t : List ℕ) (count : ℕ) (whole places : List Place) (above k : ℕ
       ∙ sym (drop-drop 1 k places)
       ∙ ap (drop 1) (so .blanks ∙ ap (λ (n : ℕ). replicate n blank) e)
 
-  pub climb-turn : k < count → count ≤ 4
-      → Climbed t count whole (set places k (placeAt t above)) (getD t (4 * 1024 + above) 0) (k + 1)
-  climb-turn h few =
+  climb-on : k < count → count ≤ 4 → Climbed t count whole (set places k (placeAt t above)) (nodeCell t nodeAbove above) (k + 1)
+  climb-on h few =
       let e : count - k ≡ suc (count - (k + 1)) = omega arith in
       record {
         so-far = omega arith;
@@ -71,6 +73,11 @@ module _ (t : List ℕ) (count : ℕ) (whole places : List Place) (above k : ℕ
         rest = rw (add-one k, climb-places h few, ← add-one k) (climb-rest h few);
         blanks = climb-blanks h few;
       }
+
+  pub climb-turn : {kind next : ℕ} → k < count → count ≤ 4 → kind ≡ nodeCell t nodeKind above → next ≡ nodeCell t nodeAbove above
+      → Climbed t count whole (set places k (record { said = eqb kind 4; node = above })) next (k + 1)
+  unfolding placeAt
+  climb-turn h few is up = rw (is, up) (climb-on h few)
 
   -- all places are read
   pub climb-over : count ≤ k → places ≡ whole
@@ -86,6 +93,11 @@ module _ (t : List ℕ) (count : ℕ) (whole places : List Place) (above k : ℕ
 pub same-places : {places whole : List Place} (count : ℕ) → places ≡ whole
     → _≡_ {A = Prefix} (record { places = places; count = count }) (record { places = whole; count = count })
 same-places count e = λ i. record { places = e i; count = count }
+
+pub same-prefix : (t : List ℕ) (i : ℕ) {places : List Place} (count : ℕ) → places ≡ prefixAt t i .places → count ≡ nodeCell t nodeDepth i
+    → record { places = places; count = count } ≡ prefixAt t i
+unfolding prefixAt
+same-prefix t i count e depth = λ j. record { places = e j; count = depth j }
 
 pub none-dropped : (k : ℕ) (ps : List Place) → k ≤ 0 → drop k ps ≡ ps
 none-dropped k ps h = let e : k ≡ 0 = omega arith in ap (λ (n : ℕ). drop n ps) e

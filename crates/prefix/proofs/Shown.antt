@@ -1,26 +1,24 @@
 -- Places against quotations: what the places of a prefix by value show, and that the places above a node show its prefix.
 -- Assumes nothing.
 use Prim.Native.Nat.{ℕ, zero, suc, _+_, _*_, _-_, _%_, _^_, _≤_, _<_}
-use native.Mathlib.Nat.{zero-add}
 use native.Mathlib.Omega.{arith}
 use mathlib.Core.Path.{_≡_, refl, sym, _∙_, ap, ap₂, subst}
 use mathlib.Core.Logic.{inl, inr}
 use mathlib.Core.Bool.{Bool, true, false, cond, _&&_}
 use mathlib.Core.List.{List, [], _∷_, map}
-use lib.ListN.{length, getD, drop, replicate, length-append, length-map, length-drop, length-replicate}
+use lib.ListN.{length, drop, replicate, length-append, length-map, length-drop, length-replicate}
 use lib.Seq.{take-at, length-take-le}
 use lib.Dec.{eqb}
 use Rattle.infon.specs.Formula.{Told, said, put, Quotation, Formula, True, name, and, implies, quoted, nodes}
 use Rattle.infon.specs.Policy.{entriesOf, mostNodes, mostDepth}
 use Rattle.infon.specs.Listing.{Prefix as Quotations}
-use Rattle.table.specs.Table.{putBit, putMask}
-use Rattle.nodes.specs.Nodes.{Node, nodeAt, countNodes, nodeRows, nodeColumns, kindOf, ownBytes, nodeCell, nodesOf, roots}
+use Rattle.formulas.specs.Table.{putBit, putMask}
+use Rattle.nodes.specs.Nodes.{Node, nodeAt, countNodes, kindOf, ownBytes, nodeValue, nodesOf, roots, nodeCell, nodePlace, nodeOwn, nodeEnd, nodeAbove, nodeLine, nodeDepth, nodeTable, nodeKind, NodesHeld}
 use Rattle.nodes.proofs.Every.{Linked, node-linked}
 use Rattle.nodes.proofs.Codes.{code3-few, code4-roots, shallow-nodes}
 use Rattle.prefix.specs.declared.Place.{Place}
 use Rattle.prefix.specs.declared.Prefix.{Prefix}
 use Rattle.prefix.specs.Places.{Sized, used, EachPlace, blank, placeAt, upFrom, prefixAt, Climbs, Readable, branches, weakerCountOf, lowered, laterBits, chosen, weakerAt, putWeight, putsOf}
-use Rattle.prefix.specs.Held.{NodesHeld}
 use Rattle.prefix.specs.Weaker.{isSaid, loweredTold, weakerCount, choose}
 
 -- What a place shows: its kind, and the principal of its quotation node.
@@ -122,38 +120,37 @@ module _ (file t : List ℕ) (held : NodesHeld file t) where
   unfolding nodesOf
   linked i h = node-linked (entriesOf file) i h
 
-  pub table-long : 7 * 1024 ≤ length t
-  unfolding nodeColumns nodeRows
+  pub table-long : length t ≡ nodeTable
   table-long = held .long
 
   module _ (i : ℕ) (h : i < countNodes (nodesOf file)) where
-    pub kind-cell : getD t i 0 ≡ kindOf (nodeAt (nodesOf file) i .what)
-    unfolding nodeCell nodeColumns nodeRows
-    kind-cell = ap (λ (j : ℕ). getD t j 0) (sym (zero-add i)) ∙ held .held .cells 0 i (omega arith) h
+    pub kind-cell : nodeCell t nodeKind i ≡ kindOf (nodeAt (nodesOf file) i .what)
+    unfolding nodeValue
+    kind-cell = held .held .cells nodeKind i (omega arith) h
 
-    pub place-cell : getD t (1024 + i) 0 ≡ nodeAt (nodesOf file) i .place
-    unfolding nodeCell nodeColumns nodeRows
-    place-cell = held .held .cells 1 i (omega arith) h
+    pub place-cell : nodeCell t nodePlace i ≡ nodeAt (nodesOf file) i .place
+    unfolding nodeValue
+    place-cell = held .held .cells nodePlace i (omega arith) h
 
-    pub own-cell : getD t (2048 + i) 0 ≡ ownBytes (nodeAt (nodesOf file) i .what)
-    unfolding nodeCell nodeColumns nodeRows
-    own-cell = held .held .cells 2 i (omega arith) h
+    pub own-cell : nodeCell t nodeOwn i ≡ ownBytes (nodeAt (nodesOf file) i .what)
+    unfolding nodeValue
+    own-cell = held .held .cells nodeOwn i (omega arith) h
 
-    pub end-cell : getD t (3072 + i) 0 ≡ i + nodes (nodeAt (nodesOf file) i .what)
-    unfolding nodeCell nodeColumns nodeRows
-    end-cell = held .held .cells 3 i (omega arith) h
+    pub end-cell : nodeCell t nodeEnd i ≡ i + nodes (nodeAt (nodesOf file) i .what)
+    unfolding nodeValue
+    end-cell = held .held .cells nodeEnd i (omega arith) h
 
-    pub above-cell : getD t (4096 + i) 0 ≡ nodeAt (nodesOf file) i .above
-    unfolding nodeCell nodeColumns nodeRows
-    above-cell = held .held .cells 4 i (omega arith) h
+    pub above-cell : nodeCell t nodeAbove i ≡ nodeAt (nodesOf file) i .above
+    unfolding nodeValue
+    above-cell = held .held .cells nodeAbove i (omega arith) h
 
-    pub line-cell : getD t (5120 + i) 0 ≡ nodeAt (nodesOf file) i .line
-    unfolding nodeCell nodeColumns nodeRows
-    line-cell = held .held .cells 5 i (omega arith) h
+    pub line-cell : nodeCell t nodeLine i ≡ nodeAt (nodesOf file) i .line
+    unfolding nodeValue
+    line-cell = held .held .cells nodeLine i (omega arith) h
 
-    pub depth-cell : getD t (6144 + i) 0 ≡ length (nodeAt (nodesOf file) i .pre)
-    unfolding nodeCell nodeColumns nodeRows
-    depth-cell = held .held .cells 6 i (omega arith) h
+    pub depth-cell : nodeCell t nodeDepth i ≡ length (nodeAt (nodesOf file) i .pre)
+    unfolding nodeValue
+    depth-cell = held .held .cells nodeDepth i (omega arith) h
 
 kind-told : (told : Told) (p : List ℕ) (x : Formula) → toldOf (eqb (kindOf (quoted (record { told = told; principal = p }) x)) 4) ≡ told
 unfolding kindOf toldOf
@@ -167,7 +164,7 @@ module _ (file t : List ℕ) (held : NodesHeld file t) where
       → quotationOf (nodesOf file) (placeAt t a) ≡ q
   unfolding quotationOf placeAt principalOf
   place-shown a h q x e =
-      let kind : getD t a 0 ≡ kindOf (quoted q x) = kind-cell file t held a h ∙ ap kindOf e in
+      let kind : nodeCell t nodeKind a ≡ kindOf (quoted q x) = kind-cell file t held a h ∙ ap kindOf e in
       ap₂ (λ (k : ℕ) (y : Formula). record { told = toldOf (eqb k 4); principal = principalOf y }) kind e
       ∙ ap (λ (told : Told). record { told = told; principal = q .principal }) (kind-told (q .told) (q .principal) x)
 
@@ -213,29 +210,29 @@ module _ (file t : List ℕ) (held : NodesHeld file t) where
     up-length : (k a : ℕ) → length (upFrom t k a) ≡ k
     unfolding upFrom
     up-length zero a = refl
-    up-length (suc k) a = ap suc (up-length k (getD t (4 * 1024 + a) 0))
+    up-length (suc k) a = ap suc (up-length k (nodeCell t nodeAbove a))
 
     pub prefix-shown : shown (nodesOf file) (used (prefixAt t i)) ≡ nodeAt (nodesOf file) i .pre
     unfolding prefixAt
     prefix-shown =
-        let k = getD t (6 * 1024 + i) 0 in
-        let ups = upFrom t k (getD t (4 * 1024 + i) 0) in
-        ap (shown (nodesOf file)) (take-at ups (replicate (4 - k) blank) k (up-length k (getD t (4 * 1024 + i) 0)))
+        let k = nodeCell t nodeDepth i in
+        let ups = upFrom t k (nodeCell t nodeAbove i) in
+        ap (shown (nodesOf file)) (take-at ups (replicate (4 - k) blank) k (up-length k (nodeCell t nodeAbove i)))
         ∙ ap₂ (λ (n a : ℕ). shown (nodesOf file) (upFrom t n a)) (depth-cell file t held i h) (above-cell file t held i h)
         ∙ above-shown (nodeAt (nodesOf file) i .pre) i h refl .1
 
     pub prefix-sized : Sized (prefixAt t i)
     unfolding prefixAt
     prefix-sized =
-        let k = getD t (6 * 1024 + i) 0 in
-        let ups = upFrom t k (getD t (4 * 1024 + i) 0) in
+        let k = nodeCell t nodeDepth i in
+        let ups = upFrom t k (nodeCell t nodeAbove i) in
         record {
           few = readable .few;
           full =
               omega (
                 arith,
                 readable .few,
-                up-length k (getD t (4 * 1024 + i) 0),
+                up-length k (nodeCell t nodeAbove i),
                 length-append ups (replicate (4 - k) blank),
                 length-replicate {A = Place} (4 - k) blank,
               );
@@ -277,7 +274,7 @@ module _ (file t : List ℕ) (held : NodesHeld file t) where
     pub places-quoted : (i : ℕ) → i < countNodes (nodesOf file) → EachPlace P (used (prefixAt t i))
     unfolding prefixAt
     places-quoted i h =
-        let k = getD t (6 * 1024 + i) 0 in
-        let ups = upFrom t k (getD t (4 * 1024 + i) 0) in
-        rw (take-at ups (replicate (4 - k) blank) k (up-length i h k (getD t (4 * 1024 + i) 0)), depth-cell file t held i h, above-cell file t held i h)
+        let k = nodeCell t nodeDepth i in
+        let ups = upFrom t k (nodeCell t nodeAbove i) in
+        rw (take-at ups (replicate (4 - k) blank) k (up-length i h k (nodeCell t nodeAbove i)), depth-cell file t held i h, above-cell file t held i h)
         (all-quoted (nodeAt (nodesOf file) i .pre) i h refl)

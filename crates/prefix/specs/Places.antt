@@ -3,8 +3,9 @@ use Prim.Native.Nat.{ℕ, zero, suc, _+_, _*_, _-_, _/_, _%_, _^_, _≤_, _<_}
 use mathlib.Core.Path.{_≡_}
 use mathlib.Core.Bool.{Bool, true, false, _&&_}
 use mathlib.Core.List.{List, [], _∷_, _++_}
-use lib.ListN.{length, getD, take, drop, replicate}
+use lib.ListN.{length, take, drop, replicate}
 use lib.Dec.{eqb}
+use Rattle.nodes.specs.Nodes.{nodeRows, nodeTable, nodeKind, nodeAbove, nodeDepth, nodeCell}
 use Rattle.prefix.specs.declared.Place.{Place}
 use Rattle.prefix.specs.declared.Prefix.{Prefix}
 
@@ -32,30 +33,30 @@ blank = record { said = false; node = 0 }
 
 -- The quotations above a node in the node table: so many places from a node on, each followed by the one above it.
 unfoldable pub placeAt : List ℕ → ℕ → Place
-placeAt t i = record { said = eqb (getD t i 0) 4; node = i }
+placeAt t i = record { said = eqb (nodeCell t nodeKind i) 4; node = i }
 
 unfoldable pub upFrom : List ℕ → ℕ → ℕ → List Place
 upFrom t zero i = []
-upFrom t (suc k) i = placeAt t i ∷ upFrom t k (getD t (4 * 1024 + i) 0)
+upFrom t (suc k) i = placeAt t i ∷ upFrom t k (nodeCell t nodeAbove i)
 
 unfoldable pub prefixAt : List ℕ → ℕ → Prefix
 prefixAt t i =
     record {
-      places = upFrom t (getD t (6 * 1024 + i) 0) (getD t (4 * 1024 + i) 0) ++ replicate (mostPlaces - getD t (6 * 1024 + i) 0) blank;
-      count = getD t (6 * 1024 + i) 0;
+      places = upFrom t (nodeCell t nodeDepth i) (nodeCell t nodeAbove i) ++ replicate (mostPlaces - nodeCell t nodeDepth i) blank;
+      count = nodeCell t nodeDepth i;
     }
 
 -- the nodes on that way are rows of the table
 abbrev pub Climbs : List ℕ → ℕ → ℕ → Type 0
 Climbs t zero i = Unit {0}
-Climbs t (suc k) i = (i < 1024) × Climbs t k (getD t (4 * 1024 + i) 0)
+Climbs t (suc k) i = (i < nodeRows) × Climbs t k (nodeCell t nodeAbove i)
 
 -- what is asked of a table to read the prefix of node i off it
 pub record Readable (t : List ℕ) (i : ℕ) : Type 0 where
-  pub long : 7 * 1024 ≤ length t
-  pub row : i < 1024
-  pub few : getD t (6 * 1024 + i) 0 ≤ mostPlaces
-  pub climbs : Climbs t (getD t (6 * 1024 + i) 0) (getD t (4 * 1024 + i) 0)
+  pub long : length t ≡ nodeTable
+  pub row : i < nodeRows
+  pub few : nodeCell t nodeDepth i ≤ mostPlaces
+  pub climbs : Climbs t (nodeCell t nodeDepth i) (nodeCell t nodeAbove i)
 
 -- a place that is said branches, one that is put does not
 unfoldable pub branches : Bool → ℕ → ℕ

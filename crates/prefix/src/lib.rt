@@ -1,19 +1,21 @@
-// A prefix: the row of quotations above a base, by value. Its places go from the innermost to the outermost, each with its kind
-// and its principal, the principal by the number of its quotation node.
+// The row of quotations above a base, by value: a prefix. Its places go from the innermost to the outermost, each with its kind and
+// its principal, the principal by the number of its quotation node.
 use nodes::ABOVE;
 use nodes::DEPTH;
+use nodes::KIND;
 use nodes::SAID;
+use nodes::cell_at;
 ghost use mathlib.Core.Path.{_≡_};
 ghost use Prim.Native.Nat.{_<_};
 ghost use Rattle.prefix.specs.Places.{Sized, used, prefixAt, Readable, branches, weakerCountOf, lowered, laterBits, weakerAt, putWeight, putsOf};
 
-// "A prefix is at most four places": the one number to change for longer ones.
+// "A prefix is at most four places", as 01 has it.
 pub const PLACES: usize = 4;
 
 // One place: its kind, and the number of its quotation node.
 pub struct Place {
     pub said: bool,
-    pub node: u16,
+    pub node: usize,
 }
 
 // So many places as count says are in use.
@@ -32,14 +34,13 @@ pub fn prefix_of(nodes: &[u16], i: usize) -> Prefix
         node: 0,
     };
     let mut places = [blank; PLACES];
-    let count = nodes[DEPTH + i] as usize;
-    let mut above = nodes[ABOVE + i];
+    let count = cell_at(nodes, DEPTH, i);
+    let mut above = cell_at(nodes, ABOVE, i);
     let mut k = 0;
     while k < count {
-        let node = above as usize;
-        let said = nodes[node] == SAID;
+        let said = cell_at(nodes, KIND, above) == SAID;
         places[k] = Place { said, node: above };
-        above = nodes[ABOVE + node];
+        above = cell_at(nodes, ABOVE, above);
         k += 1;
     }
     Prefix { places, count }

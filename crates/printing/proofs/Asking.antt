@@ -12,11 +12,12 @@ use lib.ListN.{length, getD, take, drop, length-append, length-drop}
 use lib.Seq.{drop-cons, take-at, take-take, length-take-le}
 use Rattle.infon.specs.Bytes.{bytes, space, lineFeed}
 use Rattle.infon.specs.Formula.{Formula, spelling}
-use Rattle.infon.specs.Policy.{cut, placed, Sentence, hypothesis, query, sentenceOf, isSome, withEntry, entriesFrom, formulaIn, queriesOf, passed, refused, code2From}
+use Rattle.infon.specs.declared.Verdict.the-variants.{Passed, Refused}
+use Rattle.infon.specs.Policy.{cut, placed, Sentence, hypothesis, query, sentenceOf, isSome, withEntry, entriesFrom, formulaIn, queriesOf, code2From}
 use Rattle.infon.proofs.Rows.{decided}
 use Rattle.infon.proofs.Lines.{opening, line-read}
-use Rattle.policy.specs.Lining.{untilFeed}
-use Rattle.policy.proofs.Feeds.{line-ended, lines-turn, code2-stop, code2-turn}
+use Rattle.lines.specs.Lining.{untilFeed}
+use Rattle.lines.proofs.Feeds.{line-ended, lines-turn, code2-stop, code2-turn}
 use Rattle.printing.specs.Turned.{letterOfQueries}
 
 -- the queries of the lines from a place on
@@ -25,7 +26,7 @@ queriesFrom file start = queriesOf (entriesFrom (placed start (cut (drop start f
 
 -- the lines from a place on are well formed
 abbrev pub GoodFrom : List ℕ → ℕ → Type 0
-GoodFrom file start = code2From (placed start (cut (drop start file))) ≡ passed
+GoodFrom file start = code2From (placed start (cut (drop start file))) ≡ Passed
 
 -- what the line between two places says, told from its bytes
 pub data Said (file : List ℕ) (start end : ℕ) : Type 0 where
@@ -33,7 +34,7 @@ pub data Said (file : List ℕ) (start end : ℕ) : Type 0 where
       → take (end - (start + 1)) (drop (start + 1) file) ≡ space ∷ spelling x → Said file start end
   assumes : (getD file start 0 ≡ letterOfQueries → ⊥) → queriesFrom file start ≡ queriesFrom file (end + 1) → Said file start end
 
-not-refused : (code place : ℕ) → refused code place ≡ passed → ⊥
+not-refused : (code place : ℕ) → Refused code place ≡ Passed → ⊥
 not-refused code place e = let z : _≡_ {A = ℕ} 0 1 = cc in omega arith
 
 heads : {a b : ℕ} {s t : List ℕ} → a ∷ s ≡ b ∷ t → a ≡ b

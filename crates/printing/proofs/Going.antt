@@ -11,15 +11,17 @@ use lib.Seq.{drop-cons}
 use borrow.Author.Tests.{eq-eqb, ne-eqb}
 use Rattle.infon.specs.Bytes.{space}
 use Rattle.infon.specs.Formula.{Formula, spelling}
-use Rattle.infon.specs.Policy.{cut, placed, linesOf, entriesFrom, entriesOf, queriesOf, passed, code2}
-use Rattle.policy.specs.Lining.{untilFeed}
-use Rattle.policy.proofs.Feeds.{code2-begin}
+use Rattle.infon.specs.declared.Verdict.the-variants.{Passed}
+use Rattle.infon.specs.Policy.{cut, placed, linesOf, entriesFrom, entriesOf, queriesOf, code2}
+use Rattle.lines.specs.Lining.{untilFeed}
+use Rattle.lines.proofs.Feeds.{code2-begin}
+use Rattle.writing.specs.Placed.{Put, Prints}
+use Rattle.writing.specs.Texts.{lineOf}
+use Rattle.writing.proofs.Placing.{put-length, put-on, put-nothing, put-prints}
+use Rattle.writing.proofs.Lines.{length-line}
 use Rattle.printing.specs.declared.Progress.{Progress}
-use Rattle.printing.specs.Placed.{Put, Prints}
-use Rattle.printing.specs.Printed.{behindOf, lineOf, printedFrom, printedAnswers}
+use Rattle.printing.specs.Printed.{behindOf, printedFrom, printedAnswers}
 use Rattle.printing.specs.Turned.{behindFrom, queryLine, letterOfQueries, Turned}
-use Rattle.printing.proofs.Placing.{put-length, put-on, put-nothing, put-prints}
-use Rattle.printing.proofs.Lines.{length-line}
 use Rattle.printing.proofs.Asking.{queriesFrom, GoodFrom, Said, asks, assumes, line-ends, good-behind, line-wide, line-says}
 
 -- the text of the answers from a count on, to the queries of the lines from a place on
@@ -38,7 +40,7 @@ pub record Going (file : List ℕ) (asked : Bool) (answers b₀ b₁ : List ℕ)
   pub short : length text ≤ 32 * count + start
   pub whole : text ++ textFrom file asked answers count start ≡ wholeText file asked answers
 
-pub begin : (file : List ℕ) (asked : Bool) (answers b : List ℕ) → code2 file ≡ passed → Going file asked answers b b 0 0 0
+pub begin : (file : List ℕ) (asked : Bool) (answers b : List ℕ) → code2 file ≡ Passed → Going file asked answers b b 0 0 0
 unfolding printedAnswers entriesOf linesOf
 begin file asked answers b lines =
     record {

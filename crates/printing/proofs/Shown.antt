@@ -1,5 +1,5 @@
--- Rows of answers and refusals as they are printed; where the line of a query stands; and what is printed of a run: its refusal, or
--- the lines of the answers to its queries, whatever stood in the answer row before.
+-- Rows of answers as they are printed; where the line of a query stands; and what is printed of a run: its refusal, or the lines of
+-- the answers to its queries, whatever stood in the answer row before.
 -- Assumes nothing.
 use Prim.Native.Nat.{ℕ, zero, suc, _+_, _≤_, _<_}
 use native.Mathlib.Nat.{add-zero}
@@ -8,7 +8,7 @@ use mathlib.Core.Path.{_≡_, refl, sym, _∙_, ap}
 use mathlib.Core.Bool.{Bool, true, false}
 use mathlib.Core.List.{List, [], _∷_, _++_, map, append-assoc}
 use lib.ListN.{length, take, drop, getD, length-map}
-use borrow.Author.Tests.{ne-eqb}
+use borrow.Author.Tests.{eq-eqb, ne-eqb}
 use Rattle.infon.specs.declared.Answer.{Answer}
 use Rattle.infon.specs.declared.Answer.the-variants.{No, Yes, Open}
 use Rattle.infon.specs.Bytes.{bytes, space, lineFeed}
@@ -18,7 +18,9 @@ use Rattle.infon.specs.Listing.{listOf}
 use Rattle.infon.specs.Journal.{keptOf, grown}
 use Rattle.infon.specs.Run.{Outcome, answerByte, answersOf, written, success, refusal, run}
 use Rattle.infon.proofs.Cuts.{run-cases}
-use Rattle.printing.specs.Printed.{digitsOf, decimalOf, wordOf, behindOf, lineOf, printedFrom, printedAnswers, printedRefusal, printedRun, printedOf}
+use Rattle.writing.specs.Placed.{Prints}
+use Rattle.writing.specs.Texts.{digitsOf, decimalOf, wordOf, lineOf, printedRefusal}
+use Rattle.printing.specs.Printed.{behindOf, printedFrom, printedAnswers, printedRun, printedOf}
 
 -- no queries: nothing is printed, not even a line feed
 pub none-printed : (asked : Bool) (answers : List ℕ) → printedAnswers asked [] answers ≡ []
@@ -42,10 +44,16 @@ pub questions-printed : printedFrom 1 (map answerByte (Yes ∷ No ∷ [])) (map 
 unfolding printedFrom lineOf behindOf wordOf decimalOf digitsOf answerByte bytes space lineFeed spelling words joined letterOf
 questions-printed = refl
 
--- "32,769 get 1"; "code 2, place 4"
-pub refusal-printed : (printedRefusal 1 0 ≡ bytes "refused 1 0\n") × (printedRefusal 2 4 ≡ bytes "refused 2 4\n") × (printedRefusal 5 32768 ≡ bytes "refused 5 32768\n")
-unfolding printedRefusal decimalOf digitsOf bytes space lineFeed
-refusal-printed = (refl, refl, refl)
+-- what is printed of a run that is not refused, and of one that is
+module _ (asked : Bool) (file : List ℕ) (code place : ℕ) (answers b₀ b₁ : List ℕ) (r : ℕ) where
+  pub run-answered : code ≡ 0 → Prints (printedAnswers asked (queriesOf (entriesOf file)) answers) b₀ r b₁
+      → Prints (printedRun asked file code place answers) b₀ r b₁
+  unfolding printedRun
+  run-answered h p = rw (eq-eqb code 0 h) p
+
+  pub run-refused : (code ≡ 0 → ⊥) → Prints (printedRefusal code place) b₀ r b₁ → Prints (printedRun asked file code place answers) b₀ r b₁
+  unfolding printedRun
+  run-refused h p = rw (ne-eqb code 0 h) p
 
 -- A run that is refused prints its code and place.
 pub refused-printed : (asked : Bool) (file : List ℕ) (o : Outcome) → 1 ≤ o .report .code
@@ -122,6 +130,6 @@ answers-printed asked file journal used limit before =
     (λ (o : Outcome).
     o .report .code ≡ 0 → printedOf asked file o ≡ printedAnswers asked queries (map answerByte (answersOf hyps fs (kept ++ grown hyps fs kept limit) queries)))
     (λ code place least e. absurd (omega arith))
-    (λ k a keeps adds verdict room e.
+    (λ k a keeps adds room e.
     answered-all asked queries before (answersOf hyps fs (k ++ a) queries) (length-map queries _)
     ∙ rw (adds, keeps))

@@ -7,10 +7,10 @@ use mathlib.Core.Bool.{Bool, true, false}
 use mathlib.Core.List.{List}
 use lib.ListN.{length, getD, take, drop, length-take}
 use borrow.Author.Tests.{eq-eqb, ne-eqb}
-use Rattle.printing.specs.Placed.{Put}
-use Rattle.printing.specs.Printed.{lineOf}
+use Rattle.writing.specs.Placed.{Put}
+use Rattle.writing.specs.Texts.{lineOf}
+use Rattle.writing.proofs.Placing.{put-nothing}
 use Rattle.printing.specs.Turned.{behindFrom, queryLine, letterOfQueries, Turned}
-use Rattle.printing.proofs.Placing.{put-nothing}
 
 -- the part begins behind the letter, and not behind the line's end
 pub from-places : (asked : Bool) (start end : ℕ) → start < end → (start < behindFrom asked start end) × (behindFrom asked start end ≤ end)

@@ -1,4 +1,3 @@
 -- What the programs print.
-pub mod Placed
 pub mod Printed
 pub mod Turned

@@ -5,14 +5,15 @@ use mathlib.Core.Bool.{Bool, cond}
 use mathlib.Core.List.{List, []}
 use lib.ListN.{length, getD, take, drop}
 use lib.Dec.{eqb}
-use Rattle.infon.specs.Policy.{passed, code2}
-use Rattle.printing.specs.Placed.{Put}
-use Rattle.printing.specs.Printed.{lineOf}
+use Rattle.infon.specs.declared.Verdict.the-variants.{Passed}
+use Rattle.infon.specs.Policy.{code2}
+use Rattle.writing.specs.Placed.{Put}
+use Rattle.writing.specs.Texts.{lineOf}
 use Rattle.printing.specs.declared.Progress.{Progress}
 
 -- the lines of a file are well formed, and there is room for an answer to each of so many and for the file's questions
 pub record Printable (file answers out : List ℕ) : Type 0 where
-  pub lines : code2 file ≡ passed
+  pub lines : code2 file ≡ Passed
   pub room : 32 * length answers + length file ≤ length out
 
 -- where the part of the file begins that stands behind an answer: with the space after the letter, or at the line's end, where

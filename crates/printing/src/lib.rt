@@ -3,59 +3,14 @@ ghost use mathlib.Core.Path.{_≡_};
 ghost use Prim.Native.Nat.{_+_, _-_, _≤_, _<_};
 ghost use lib.ListN.{length};
 ghost use Rattle.infon.specs.Policy.{entriesOf, queriesOf};
-ghost use Rattle.printing.specs.Placed.{Put, Prints};
-ghost use Rattle.printing.specs.Printed.{decimalOf, wordOf, lineOf, printedAnswers, printedRefusal, printedRun};
+ghost use Rattle.writing.specs.Placed.{Prints};
+ghost use Rattle.printing.specs.Printed.{printedAnswers, printedRun};
 ghost use Rattle.printing.specs.Turned.{behindFrom, Turned, Printable};
 
 // How far the text has come: the place behind it, and how many answers stand in it.
 pub struct Progress {
     pub at: usize,
     pub count: usize,
-}
-
-// Puts a text into out from a place on, and returns the place after it.
-fn put(text: &[u8], out: &mut [u8], at: usize) -> usize
-    requires { ⌜ at + length (now text) ≤ length (now out) ⌝ }
-    ensures { λ r. ⌜ Put (now (text .entry)) at (now (out .entry)) r (now (out .exit)) ⌝ }
-{
-    let n = bytes::copy(text, &mut out[at..]);
-    at + n
-}
-
-// Puts a number in decimal.
-fn put_decimal(n: usize, out: &mut [u8], at: usize) -> usize
-    requires { ⌜ at + 20 ≤ length (now out) ⌝ }
-    ensures { λ r. ⌜ Put (decimalOf n) at (now (out .entry)) r (now (out .exit)) ⌝ }
-{
-    let mut text = [0u8; 20];
-    let k = io::decimal(n as u64, &mut text);
-    put(&text[..k], out, at)
-}
-
-// Puts the word for an answer's byte.
-fn put_word(answer: u8, out: &mut [u8], at: usize) -> usize
-    requires { ⌜ at + 4 ≤ length (now out) ⌝ }
-    ensures { λ r. ⌜ Put (wordOf answer) at (now (out .entry)) r (now (out .exit)) ⌝ }
-{
-    if answer == 1 {
-        return put(b"yes", out, at);
-    }
-    if answer == 0 {
-        return put(b"no", out, at);
-    }
-    put(b"open", out, at)
-}
-
-// Puts a query's line: its count, a space, the word for its answer, what stands behind that, and a line feed.
-fn put_line(count: usize, answer: u8, behind: &[u8], out: &mut [u8], at: usize) -> usize
-    requires { ⌜ at + 32 + length (now behind) ≤ length (now out) ⌝ }
-    ensures { λ r. ⌜ Put (lineOf count answer (now (behind .entry))) at (now (out .entry)) r (now (out .exit)) ⌝ }
-{
-    let after_count = put_decimal(count, out, at);
-    let after_space = put(b" ", out, after_count);
-    let after_word = put_word(answer, out, after_space);
-    let after_behind = put(behind, out, after_word);
-    put(b"\n", out, after_behind)
 }
 
 // Where the part of a query's line begins that is printed behind its answer: with the space after the letter, or at the end of the
@@ -90,7 +45,7 @@ fn put_query(
         return Progress { at, count };
     }
     let from = behind_from(asked, start, end);
-    let next = put_line(count + 1, answers[count], &file[from..end], out, at);
+    let next = writing::put_line(count + 1, answers[count], &file[from..end], out, at);
     Progress {
         at: next,
         count: count + 1,
@@ -110,25 +65,13 @@ fn print_answers(file: &[u8], asked: bool, answers: &[u8], out: &mut [u8]) -> us
         if answers.len() <= count {
             return at;
         }
-        let end = policy::line_end(file, start);
+        let end = lines::line_end(file, start);
         let next = put_query(file, start, end, asked, answers, count, out, at);
         at = next.at;
         count = next.count;
         start = end + 1;
     }
     at
-}
-
-// Prints a refusal's line, and returns its length.
-fn print_refusal(code: usize, place: usize, out: &mut [u8]) -> usize
-    requires { ⌜ 64 ≤ length (now out) ⌝ }
-    ensures { λ r. ⌜ Prints (printedRefusal code place) (now (out .entry)) r (now (out .exit)) ⌝ }
-{
-    let after_word = put(b"refused ", out, 0);
-    let after_code = put_decimal(code, out, after_word);
-    let after_space = put(b" ", out, after_code);
-    let after_place = put_decimal(place, out, after_space);
-    put(b"\n", out, after_place)
 }
 
 // Prints what a run of a file found, the refusal alone or a line for each query, and returns the length of the text.
@@ -147,6 +90,6 @@ pub fn print_run(
     if code == 0 {
         print_answers(file, asked, answers, out)
     } else {
-        print_refusal(code, place, out)
+        writing::print_refusal(code, place, out)
     }
 }

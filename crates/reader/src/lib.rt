@@ -1,19 +1,18 @@
-// The reader of the journal: what nine bytes spell, and the record at a place. Nine bytes a record, high byte first:
+// The reader of the journal: what nine bytes spell, and a reader that goes from record to record. Nine bytes a record, high byte first:
 //
 //   bytes 0 and 1   the mark 4C 51
 //   byte 2          the rule, 1 to 8
 //   bytes 3 and 4   the formula's number
 //   bytes 5 and 6   the first premise's number, FF FF for none
 //   bytes 7 and 8   the second premise's number, FF FF for none
+use infon::RECORD_BYTES;
 use infon::Record;
 use infon::Way;
 ghost use mathlib.Core.Path.{_≡_};
-ghost use Prim.Native.Nat.{_+_, _<_, _≤_};
+ghost use Prim.Native.Nat.{_+_, _^_, _<_, _≤_};
 ghost use lib.ListN.{length};
 ghost use Rattle.infon.specs.Journal.{numberAt, alone, withOne, wayOf, decoded};
 ghost use Rattle.reader.specs.Decoded.{toRule, toDecoded, recordAt};
-
-pub const RECORD_BYTES: usize = 9;
 
 pub const MARK_HIGH: u8 = 0x4C;
 
@@ -123,22 +122,26 @@ fn record_at(journal: &[u8], at: usize) -> Decoded
 }
 
 // A reader of a journal, set to a place.
-fn reader_at<'a>(journal: &'a [u8], at: usize) -> Reader<'a>
+pub fn reader_at<'a>(journal: &'a [u8], at: usize) -> Reader<'a>
     ensures { λ r. ⌜ (r .journal ≡ journal .entry) × (r .at ≡ at) ⌝ }
 {
     Reader { journal, at }
 }
 
 // What a reader finds at its place.
-fn next_in<'a>(r: Reader<'a>) -> Decoded
+pub fn next_in<'a>(r: Reader<'a>) -> Decoded
     ensures { λ d. ⌜ d ≡ toDecoded (recordAt (now (r .entry .journal)) (r .entry .at)) ⌝ }
 {
     record_at(r.journal, r.at)
 }
 
-// What a reader that is set to a place of a journal finds there.
-pub fn read_at(journal: &[u8], at: usize) -> Decoded
-    ensures { λ r. ⌜ r ≡ toDecoded (recordAt (now (journal .entry)) at) ⌝ }
+// The reader moved on to the next record's place.
+pub fn moved<'a>(r: Reader<'a>) -> Reader<'a>
+    requires { ⌜ r .at + 9 < 2 ^ 64 ⌝ }
+    ensures { λ q. ⌜ (q .journal ≡ r .entry .journal) × (q .at ≡ r .entry .at + 9) ⌝ }
 {
-    next_in(reader_at(journal, at))
+    Reader {
+        journal: r.journal,
+        at: r.at + RECORD_BYTES,
+    }
 }

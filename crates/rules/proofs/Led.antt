@@ -11,8 +11,8 @@ use borrow.Author.Tests.{lt-ltb, le-ltb, eq-eqb}
 use Rattle.infon.specs.declared.Way.{Way}
 use Rattle.infon.specs.declared.Record.{Record}
 use Rattle.infon.proofs.Rows.{and-true}
-use Rattle.table.specs.Tests.{givesIn, isMarked, premisesMarked, leadsTo, goodIn}
-use Rattle.table.proofs.Given.{marked-below}
+use Rattle.formulas.specs.Tests.{givesIn, isMarked, premisesMarked, leadsTo, goodIn}
+use Rattle.formulas.proofs.Given.{marked-below}
 
 -- the second test decides where the first passes
 pub first-passed : {a b r : Bool} → a ≡ true → r ≡ b → r ≡ a && b

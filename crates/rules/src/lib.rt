@@ -1,36 +1,24 @@
 // The test of a record over the formula table and the marks of what is recorded: the eight rules as comparisons of columns.
+use formulas::BOTTOM;
+use formulas::CONJUNCTION;
+use formulas::HYPOTHESIS;
+use formulas::IMPLICATION;
+use formulas::KIND;
+use formulas::LEFT;
+use formulas::PUTS;
+use formulas::RIGHT;
+use formulas::TRUTH;
+use formulas::cell_at;
 use infon::Record;
 use infon::Way;
-use table::BOTTOM;
-use table::HYPOTHESIS;
-use table::KIND;
-use table::LEFT;
-use table::PUTS;
-use table::RIGHT;
-use table::ROWS;
 ghost use mathlib.Core.Path.{_≡_};
 ghost use mathlib.Core.Bool.{_&&_};
 ghost use Prim.Native.Nat.{_<_, _≤_};
 ghost use lib.ListN.{length};
 ghost use lib.Dec.{eqb};
 ghost use Rattle.infon.specs.declared.Way.the-variants.{Weaken};
-ghost use Rattle.table.specs.Table.{cell};
-ghost use Rattle.table.specs.Tests.{givesIn, isMarked, leadsTo, goodIn};
-
-// The kinds of formulas that the rules ask for: a prefix over `T`, over `+`, over `>`.
-pub const TRUTH: usize = 0;
-
-pub const CONJUNCTION: usize = 2;
-
-pub const IMPLICATION: usize = 3;
-
-// The cell of a column at a formula's number.
-pub fn cell_at(table: &[u16], column: usize, i: usize) -> usize
-    requires { ⌜ (24576 ≤ length (now table)) × (column < 6) × (i < 4096) ⌝ }
-    ensures { λ r. ⌜ r ≡ cell (now (table .entry)) column i ⌝ }
-{
-    table[column * ROWS + i] as usize
-}
+ghost use Rattle.formulas.specs.Table.{tableRows, tableCells, tableColumns, cell};
+ghost use Rattle.formulas.specs.Tests.{kindAt, leftAt, rightAt, givesIn, isMarked, leadsTo, goodIn};
 
 // Whether a number is one of the n listed, and marked as recorded.
 pub fn is_marked(marks: &[u8], n: usize, i: usize) -> bool
@@ -50,7 +38,7 @@ pub fn are_marked(marks: &[u8], n: usize, p: usize, q: usize) -> bool
 
 // Rule 3: whether f is p with put at some places where p has said.
 pub fn weakens(table: &[u16], p: usize, f: usize) -> bool
-    requires { ⌜ (24576 ≤ length (now table)) × (p < 4096) × (f < 4096) ⌝ }
+    requires { ⌜ (tableCells ≤ length (now table)) × (p < tableRows) × (f < tableRows) ⌝ }
     ensures { λ r. ⌜ r ≡ givesIn (now (table .entry)) (Weaken p) f ⌝ }
 {
     let from = cell_at(table, PUTS, p);
@@ -60,24 +48,24 @@ pub fn weakens(table: &[u16], p: usize, f: usize) -> bool
 
 // Whether a formula is of a kind and has a part, the left or the right one as the column says.
 pub fn has_part(table: &[u16], kind: usize, column: usize, whole: usize, part: usize) -> bool
-    requires { ⌜ (24576 ≤ length (now table)) × (column < 6) × (whole < 4096) ⌝ }
-    ensures { λ r. ⌜ r ≡ eqb (cell (now (table .entry)) 0 whole) kind && eqb (cell (now (table .entry)) column whole) part ⌝ }
+    requires { ⌜ (tableCells ≤ length (now table)) × (column < tableColumns) × (whole < tableRows) ⌝ }
+    ensures { λ r. ⌜ r ≡ eqb (cell (now (table .entry)) kindAt whole) kind && eqb (cell (now (table .entry)) column whole) part ⌝ }
 {
     cell_at(table, KIND, whole) == kind && cell_at(table, column, whole) == part
 }
 
 // Whether a formula is of a kind and has a left and a right part.
 fn has_parts(table: &[u16], kind: usize, whole: usize, left: usize, right: usize) -> bool
-    requires { ⌜ (24576 ≤ length (now table)) × (whole < 4096) ⌝ }
-    ensures { λ r. ⌜ r ≡ eqb (cell (now (table .entry)) 0 whole) kind && eqb (cell (now (table .entry)) 2 whole) left
-        && eqb (cell (now (table .entry)) 3 whole) right ⌝ }
+    requires { ⌜ (tableCells ≤ length (now table)) × (whole < tableRows) ⌝ }
+    ensures { λ r. ⌜ r ≡ eqb (cell (now (table .entry)) kindAt whole) kind && eqb (cell (now (table .entry)) leftAt whole) left
+        && eqb (cell (now (table .entry)) rightAt whole) right ⌝ }
 {
     has_part(table, kind, LEFT, whole, left) && cell_at(table, RIGHT, whole) == right
 }
 
 // Whether a way's premises are marked and it gives the formula with number f.
 fn leads_to(table: &[u16], n: usize, marks: &[u8], f: usize, way: Way) -> bool
-    requires { ⌜ (24576 ≤ length (now table)) × (n ≤ length (now marks)) × (n ≤ 4096) × (f < n) ⌝ }
+    requires { ⌜ (tableCells ≤ length (now table)) × (n ≤ length (now marks)) × (n ≤ tableRows) × (f < n) ⌝ }
     ensures { λ r. ⌜ r ≡ leadsTo (now (table .entry)) n (now (marks .entry)) f way ⌝ }
 {
     match way {
@@ -94,7 +82,7 @@ fn leads_to(table: &[u16], n: usize, marks: &[u8], f: usize, way: Way) -> bool
 
 // Whether a record, which may hold any numbers, is good after the marked ones.
 pub fn is_good(table: &[u16], n: usize, marks: &[u8], r: Record) -> bool
-    requires { ⌜ (24576 ≤ length (now table)) × (n ≤ length (now marks)) × (n ≤ 4096) ⌝ }
+    requires { ⌜ (tableCells ≤ length (now table)) × (n ≤ length (now marks)) × (n ≤ tableRows) ⌝ }
     ensures { λ good. ⌜ good ≡ goodIn (now (table .entry)) n (now (marks .entry)) r ⌝ }
 {
     let f = r.formula;

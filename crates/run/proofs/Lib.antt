@@ -1,6 +1,2 @@
-pub mod Answering
-pub mod Outcomes
-pub mod Working
-pub mod Proceeding
 pub mod Accepting
 pub mod Promises

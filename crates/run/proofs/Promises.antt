@@ -13,14 +13,16 @@ use Rattle.infon.specs.declared.Report.{Report}
 use Rattle.infon.specs.Calculus.{Derives}
 use Rattle.infon.specs.Rules.{numbered}
 use Rattle.infon.specs.Journal.{isRecorded, recordBytes, spelledAll, decoded, wholeRecords}
+use Rattle.infon.specs.Codes.{First, None}
 use Rattle.infon.specs.Run.{isOnRecord, Missing, Outcome, refusal, run}
+use Rattle.infon.specs.Board.{runRow}
 use Rattle.infon.proofs.Codec.{AreBytes}
 use Rattle.infon.proofs.Grown.{GoodRow}
 use Rattle.infon.proofs.Cuts.{Reached, ran as goes-on}
-use Rattle.infon.proofs.Refusals.{Rule, refusal-given, refusal-only, accepted-exactly}
+use Rattle.infon.proofs.Refusals.{refusal-given, refusal-only, accepted-none, none-accepted}
 use Rattle.infon.proofs.Demands as Demands
-use Rattle.infon.proofs.Demands.{hypothesesIn, queriesIn, queryAt, listIn, keptIn, leftIn}
-use Rattle.run.specs.Prepared.{Workable, left, Works}
+use Rattle.infon.proofs.Demands.{hypothesesIn, queriesIn, queryAt, listIn, keptPart, recordsLeft}
+use Rattle.working.specs.Working.{left}
 
 -- the contract of `run`
 abbrev pub Ran : List ℕ → List ℕ → ℕ → ℕ → List ℕ → Report → List ℕ → List ℕ → Type 0
@@ -36,16 +38,6 @@ pub one-answer : (file journal : List ℕ) (used limit : ℕ) (answers : List �
 one-answer file journal used limit answers first second =
     let same = first ∙ sym second in
     (ap (λ (o : Outcome). o .report) same, (ap (λ (o : Outcome). o .journal) same, ap (λ (o : Outcome). o .answers) same))
-
--- So does the work on a prepared list.
-pub works-once : {t : List ℕ} {n : ℕ} {numbers : List ℕ} {asked : ℕ} {journal : List ℕ} {used : ℕ} (limit : ℕ) {answers : List ℕ} {report other : Report}
-    {journalAfter answersAfter journalOther answersOther : List ℕ} → Workable t n numbers asked journal used answers
-    → Works t n numbers asked journal used limit answers report journalAfter answersAfter
-    → Works t n numbers asked journal used limit answers other journalOther answersOther
-    → left report journalAfter answersAfter ≡ left other journalOther answersOther
-works-once limit able first second =
-    let prepared = able .prepared in
-    first (able .hyps) (able .fs) (able .queries) prepared ∙ sym (second (able .hyps) (able .fs) (able .queries) prepared)
 
 module _ (file journal : List ℕ) (used limit : ℕ) (answers : List ℕ) (report : Report) (journalAfter answersAfter : List ℕ)
     (ran : Ran file journal used limit answers report journalAfter answersAfter) where
@@ -64,27 +56,25 @@ module _ (file journal : List ℕ) (used limit : ℕ) (answers : List ℕ) (repo
 
   -- ---- Demand 1
 
-  -- "Each refusal is given exactly when its rule says, and then journal and answers stay byte for byte as they were."
-  pub refused-where-its-rule-says : (code place : ℕ) → Rule file journal used limit answers code place
-      → ((c p : ℕ) → c < code → Rule file journal used limit answers c p → ⊥)
+  -- "Each refusal is given exactly when its rule says, and then journal and answers stay byte for byte as they were": the first of
+  -- the row whose rule holds is given, ..
+  pub refused-where-its-rule-says : (code place : ℕ) → First (runRow file journal used limit answers) code place
       → left report journalAfter answersAfter ≡ refusal code place used journal answers
-  refused-where-its-rule-says code place rule none-before = ran ∙ refusal-given file journal used limit answers code place rule none-before
+  refused-where-its-rule-says code place first = ran ∙ refusal-given file journal used limit answers first
 
-  pub refused-only-there : 1 ≤ report .code
-      → Rule file journal used limit answers (report .code) (report .place)
-      × ((c p : ℕ) → c < report .code → Rule file journal used limit answers c p → ⊥)
+  -- .. no other is, ..
+  pub refused-only-there : 1 ≤ report .code → First (runRow file journal used limit answers) (report .code) (report .place)
   refused-only-there h =
-      of-outcome
-      (λ (o : Outcome).
-      Rule file journal used limit answers (o .report .code) (o .report .place)
-      × ((c p : ℕ) → c < o .report .code → Rule file journal used limit answers c p → ⊥))
+      subst (λ (o : Outcome). First (runRow file journal used limit answers) (o .report .code) (o .report .place)) (sym ran)
       (refusal-only file journal used limit answers (to-outcome (λ (o : Outcome). 1 ≤ o .report .code) h))
 
-  -- A call is not refused exactly where no rule says so.
-  pub accepted-where-none-does : (report .code ≡ 0) ↔ ((c p : ℕ) → Rule file journal used limit answers c p → ⊥)
-  accepted-where-none-does =
-      of-outcome (λ (o : Outcome). (o .report .code ≡ 0) ↔ ((c p : ℕ) → Rule file journal used limit answers c p → ⊥))
-      (accepted-exactly file journal used limit answers)
+  -- .. and none is exactly where no rule of the row holds.
+  pub accepted-where-none-does : (report .code ≡ 0 → None (runRow file journal used limit answers))
+      × (None (runRow file journal used limit answers) → report .code ≡ 0)
+  accepted-where-none-does = (
+    λ h. accepted-none file journal used limit answers (accepted h),
+    λ none. of-outcome (λ (o : Outcome). o .report .code ≡ 0) (none-accepted file journal used limit answers none),
+  )
 
   -- ---- Demand 2
 
@@ -104,31 +94,31 @@ module _ (file journal : List ℕ) (used limit : ℕ) (answers : List ℕ) (repo
 
   -- "Before that, yes is said only where the journal already holds the record; .."
   pub yes-only-where-recorded : report .code ≡ 0 → (i : ℕ) → i < length (queriesIn file) → getD answersAfter i 0 ≡ 1
-      → isOnRecord (listIn file) (leftIn file journal used limit) (queryAt file i) ≡ true
+      → isOnRecord (listIn file) (recordsLeft file journal used limit) (queryAt file i) ≡ true
   yes-only-where-recorded code i low answer =
       Demands.yes-recorded-only file journal used limit answers (accepted code) i low
       (to-outcome (λ (o : Outcome). getD (o .answers) i 0 ≡ 1) answer)
 
   -- .. and the bytes that the journal now holds are those records.
   pub journal-holds-them : AreBytes journal → report .code ≡ 0
-      → take (report .used) journalAfter ≡ spelledAll (leftIn file journal used limit)
+      → take (report .used) journalAfter ≡ spelledAll (recordsLeft file journal used limit)
   journal-holds-them bytes code =
-      of-outcome (λ (o : Outcome). take (o .report .used) (o .journal) ≡ spelledAll (leftIn file journal used limit))
+      of-outcome (λ (o : Outcome). take (o .report .used) (o .journal) ≡ spelledAll (recordsLeft file journal used limit))
       (Demands.leaves file journal used limit answers (accepted code) bytes)
 
   -- Whoever reads these bytes back keeps exactly those records, whatever stands behind them.
   pub reads-back : AreBytes journal → report .code ≡ 0 → (after : List ℕ) → take (report .used) after ≡ take (report .used) journalAfter
-      → keptIn file after (report .used) ≡ leftIn file journal used limit
+      → keptPart file after (report .used) ≡ recordsLeft file journal used limit
   reads-back bytes code =
       of-outcome
       (λ (o : Outcome).
       (after : List ℕ) → take (o .report .used) after ≡ take (o .report .used) (o .journal)
-      → keptIn file after (o .report .used) ≡ leftIn file journal used limit)
+      → keptPart file after (o .report .used) ≡ recordsLeft file journal used limit)
       (Demands.read-back file journal used limit answers (accepted code) bytes)
 
   -- ".. the rest is open."
   pub rest-is-open : report .code ≡ 0 → report .finished ≡ false → (i : ℕ) → i < length (queriesIn file)
-      → isOnRecord (listIn file) (leftIn file journal used limit) (queryAt file i) ≡ false → getD answersAfter i 0 ≡ 2
+      → isOnRecord (listIn file) (recordsLeft file journal used limit) (queryAt file i) ≡ false → getD answersAfter i 0 ≡ 2
   rest-is-open code going i low off =
       of-outcome (λ (o : Outcome). getD (o .answers) i 0 ≡ 2)
       (Demands.rest-open file journal used limit answers (accepted code) (to-outcome (λ (o : Outcome). o .report .finished ≡ false) going) i low
@@ -137,14 +127,14 @@ module _ (file journal : List ℕ) (used limit : ℕ) (answers : List ℕ) (repo
   -- ---- Demand 3
 
   -- "Each run adds as many records as its limit allows or as are missing, the smaller, and reports that number."
-  pub adds-the-smaller : report .code ≡ 0 → (m : ℕ) → Missing (hypothesesIn file) (keptIn file journal used) 0 (listIn file) m
+  pub adds-the-smaller : report .code ≡ 0 → (m : ℕ) → Missing (hypothesesIn file) (keptPart file journal used) 0 (listIn file) m
       → report .added ≡ min limit m
   adds-the-smaller code m h =
       of-outcome (λ (o : Outcome). o .report .added ≡ min limit m) (Demands.adds file journal used limit answers (accepted code) m h)
 
   -- "whether the journal is finished": it is exactly if the limit allows as many records as are missing.
   pub finished-exactly-if-enough : report .code ≡ 0 → (m : ℕ)
-      → Missing (hypothesesIn file) (keptIn file journal used) 0 (listIn file) m → (report .finished ≡ true) ↔ (m ≤ limit)
+      → Missing (hypothesesIn file) (keptPart file journal used) 0 (listIn file) m → (report .finished ≡ true) ↔ (m ≤ limit)
   finished-exactly-if-enough code m h =
       of-outcome (λ (o : Outcome). (o .report .finished ≡ true) ↔ (m ≤ limit))
       (Demands.finished-exactly file journal used limit answers (accepted code) m h)
@@ -153,32 +143,32 @@ module _ (file journal : List ℕ) (used limit : ℕ) (answers : List ℕ) (repo
   -- kept": the report counts these records, and their bytes stay; they are what whole records at the journal's start, inside the
   -- used length, spell; each is good after those before it; and they begin with every other such row.
   pub keeps-the-longest : report .code ≡ 0
-      → (report .kept ≡ length (keptIn file journal used))
+      → (report .kept ≡ length (keptPart file journal used))
       × ((take (recordBytes * report .kept) journalAfter ≡ take (recordBytes * report .kept) journal)
-      × ((map decoded (take (report .kept) (wholeRecords (used / recordBytes) journal)) ≡ map some (keptIn file journal used))
-      × (GoodRow (hypothesesIn file) (listIn file) [] (keptIn file journal used)
+      × ((map decoded (take (report .kept) (wholeRecords (used / recordBytes) journal)) ≡ map some (keptPart file journal used))
+      × (GoodRow (hypothesesIn file) (listIn file) [] (keptPart file journal used)
       × ((row : List Record) → GoodRow (hypothesesIn file) (listIn file) [] row
       → map decoded (take (length row) (wholeRecords (used / recordBytes) journal)) ≡ map some row
-      → take (length row) (keptIn file journal used) ≡ row))))
+      → take (length row) (keptPart file journal used) ≡ row))))
   keeps-the-longest code =
       let such-a-row = Demands.kept-is-such-a-row file journal used in
-      let count : report .kept ≡ length (keptIn file journal used) =
-      of-outcome (λ (o : Outcome). o .report .kept ≡ length (keptIn file journal used)) (Demands.keeps file journal used limit answers (accepted code)) in
+      let count : report .kept ≡ length (keptPart file journal used) =
+      of-outcome (λ (o : Outcome). o .report .kept ≡ length (keptPart file journal used)) (Demands.keeps file journal used limit answers (accepted code)) in
       let stay =
       of-outcome
       (λ (o : Outcome).
-      take (recordBytes * length (keptIn file journal used)) (o .journal) ≡ take (recordBytes * length (keptIn file journal used)) journal)
+      take (recordBytes * length (keptPart file journal used)) (o .journal) ≡ take (recordBytes * length (keptPart file journal used)) journal)
       (Demands.kept-stay file journal used limit answers (accepted code)) in
       (count, (rw count stay, (rw count (such-a-row .1), (such-a-row .0, Demands.kept-is-longest file journal used))))
 
   -- "the finished journal then records exactly the derivable formulas of the file's list, .."
   pub records-exactly-the-derivable : report .code ≡ 0 → report .finished ≡ true → (n : ℕ) → n < length (listIn file)
-      → (isRecorded n (leftIn file journal used limit) ≡ true) ↔ Derives (hypothesesIn file) (numbered (listIn file) n)
+      → (isRecorded n (recordsLeft file journal used limit) ≡ true) ↔ Derives (hypothesesIn file) (numbered (listIn file) n)
   records-exactly-the-derivable code ended n low =
       Demands.records-exactly file journal used limit answers (accepted code) (finished ended) n low
 
   -- ".. each once": none of the records that the journal holds is for a formula that an earlier one is for.
-  pub records-each-once : (before after : List Record) (r : Record) → leftIn file journal used limit ≡ before ++ (r ∷ after)
+  pub records-each-once : (before after : List Record) (r : Record) → recordsLeft file journal used limit ≡ before ++ (r ∷ after)
       → isRecorded (r .formula) before ≡ false
   records-each-once = Demands.each-once file journal used limit
 

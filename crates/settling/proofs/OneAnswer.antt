@@ -8,7 +8,7 @@ use mathlib.Core.List.{List}
 use lib.Dec.{eqb}
 use Rattle.infon.specs.declared.Report.{Report}
 use Rattle.infon.specs.Journal.{recordBytes}
-use Rattle.printing.proofs.Placing.{prints-one}
+use Rattle.writing.proofs.Placing.{prints-one}
 use Rattle.settling.specs.declared.Settlement.{Settlement}
 use Rattle.settling.specs.Settled.{droppedOf, Settles}
 

@@ -9,16 +9,14 @@ use lib.ListN.{length, take, replicate, length-append}
 use lib.Seq.{take-at}
 use borrow.Author.Tests.{lt-ltb, le-ltb}
 use Rattle.infon.specs.declared.Report.{Report}
-use Rattle.infon.specs.Policy.{entriesOf, passed, andThen, mostBytes, code1, code2, code3, code4}
-use Rattle.infon.specs.Listing.{code5}
-use Rattle.infon.specs.Run.{Outcome, fileVerdict, run}
-use Rattle.infon.proofs.Cuts.{andThen-passed, code-accepted}
-use Rattle.infon.proofs.Refusals.{file-too-long, accepted-exactly}
-use Rattle.printing.specs.Placed.{Prints}
+use Rattle.infon.specs.Policy.{mostBytes}
+use Rattle.infon.specs.Run.{Outcome, run}
+use Rattle.infon.proofs.Refusals.{accepted-passes, lets-pass}
+use Rattle.writing.specs.Placed.{Prints}
+use Rattle.writing.proofs.Placing.{put-nothing, put-prints}
 use Rattle.printing.specs.Printed.{printedRun}
 use Rattle.printing.specs.Turned.{Printable}
-use Rattle.printing.proofs.Placing.{put-nothing, put-prints}
-use Rattle.run.specs.Prepared.{left}
+use Rattle.working.specs.Working.{left}
 use Rattle.settling.specs.declared.Settlement.{Settlement}
 use Rattle.settling.specs.Settled.{textBytes, answerRoom, settledRun, textOf, settledText, restOf, isBegun, droppedOf, Settles}
 use Rattle.settling.specs.Telling.{settlementOf, Shows}
@@ -40,20 +38,6 @@ unfolding mostBytes
 printable file code answers text known long accepted =
     let within = known .within accepted in
     record { lines = within .0; room = omega (arith, known .few, within .1) }
-
--- what a run that is not refused shows of its file and its journal
-module _ (file journal : List ℕ) (used limit : ℕ) (answers : List ℕ) (accepted : run file journal used limit answers .report .code ≡ 0) where
-  lines-good : code2 file ≡ passed
-  unfolding fileVerdict
-  lines-good =
-      let entries = entriesOf file in
-      let from3 = andThen (code3 entries) (andThen (code4 entries) (code5 entries)) in
-      andThen-passed (code2 file) from3 (andThen-passed (code1 file) (andThen (code2 file) from3) (code-accepted file journal used limit answers accepted) .1) .0
-
-  file-short : length file ≤ mostBytes
-  file-short =
-      let long : mostBytes < length file → ⊥ = λ h. accepted-exactly file journal used limit answers .0 accepted 1 0 (file-too-long h) in
-      omega arith
 
 -- the answer row before a run
 abbrev pub zeros : ℕ → List ℕ
@@ -100,7 +84,8 @@ module _ (file journal : List ℕ) (used limit : ℕ) (asked : Bool) (text : Lis
         few = few;
         within = λ accepted.
             let zero-code = sym code-now ∙ accepted in
-            (lines-good file journal used limit (take room (zeros 1024)) zero-code, file-short file journal used limit (take room (zeros 1024)) zero-code);
+            let passes = accepted-passes file (lets-pass file journal used limit (take room (zeros 1024)) zero-code .accepted) in
+            (passes .formed, passes .short);
       }
 
   told-text : textOf asked file (report .code) (report .place) answers text ≡ settledText file journal used limit asked text

@@ -11,7 +11,7 @@ use lib.Dec.{eqb, ltb}
 use lib.Seq.{take-take}
 use borrow.Author.Tests.{eq-eqb, eqb-true, ltb-false}
 use Rattle.infon.specs.Journal.{recordBytes}
-use Rattle.infon.proofs.Demands.{keptIn, addedIn, leftIn, keeps, kept-stay, uses}
+use Rattle.infon.proofs.Demands.{keptPart, addedPart, recordsLeft, keeps, kept-stay, uses}
 use Rattle.settling.specs.declared.Settlement.{Settlement}
 use Rattle.settling.specs.Settled.{settledRun, restOf, isBegun, droppedBy, droppedOf, Settles}
 use Rattle.settling.proofs.Settling.{rowFor, accepted-run}
@@ -48,19 +48,19 @@ module _ (file journal : List ℕ) (used limit : ℕ) (asked : Bool) (text : Lis
   records-stand h =
       let ran = accepted-run settles accepted in
       let whole = recordBytes * (used / recordBytes) in
-      let count = length (keptIn file journal used) in
+      let count = length (keptPart file journal used) in
       let kept = recordBytes * count in
       let counted : settled .report .kept ≡ count =
       ap (λ r. r .kept) (settles .report-now) ∙ keeps file journal used limit (rowFor text) ran in
       let all : used / recordBytes ≤ count = rw counted at (ltb-false (settled .report .kept) (used / recordBytes) (by-number h .0)) in
       let fits : whole ≤ kept = more-records (used / recordBytes) count all in
-      let in-use : settled .report .used ≡ recordBytes * length (leftIn file journal used limit) =
+      let in-use : settled .report .used ≡ recordBytes * length (recordsLeft file journal used limit) =
       ap (λ r. r .used) (settles .report-now) ∙ uses file journal used limit (rowFor text) ran in
-      let among : used / recordBytes ≤ length (leftIn file journal used limit) =
-      omega (arith, length-append (keptIn file journal used) (addedIn file journal used limit)) in
+      let among : used / recordBytes ≤ length (recordsLeft file journal used limit) =
+      omega (arith, length-append (keptPart file journal used) (addedPart file journal used limit)) in
       let stay : take kept after ≡ take kept journal =
       ap (take kept) (settles .journal-now) ∙ kept-stay file journal used limit (rowFor text) ran in (
-        rw in-use (more-records (used / recordBytes) (length (leftIn file journal used limit)) among),
+        rw in-use (more-records (used / recordBytes) (length (recordsLeft file journal used limit)) among),
         sym (take-take whole kept after fits) ∙ (ap (take whole) stay ∙ take-take whole kept journal fits),
       )
 

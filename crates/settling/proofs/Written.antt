@@ -17,9 +17,10 @@ use Rattle.infon.specs.Journal.{isFinished}
 use Rattle.infon.specs.Run.{answerByte, answerOf, answersOf, isOnRecord}
 use Rattle.infon.proofs.Rows.{decided, getD-map}
 use Rattle.infon.proofs.Codec.{AreBytes}
-use Rattle.infon.proofs.Demands.{hypothesesIn, queriesIn, queryAt, listIn, keptIn, leftIn, read-back}
-use Rattle.infon.proofs.Refusals.{answers-too-short, accepted-exactly}
-use Rattle.printing.specs.Printed.{wordOf, behindOf, lineOf, printedFrom, printedAnswers, printedOf}
+use Rattle.infon.proofs.Demands.{hypothesesIn, queriesIn, queryAt, listIn, keptPart, recordsLeft, read-back}
+use Rattle.infon.proofs.Refusals.{lets-pass}
+use Rattle.writing.specs.Texts.{wordOf, lineOf}
+use Rattle.printing.specs.Printed.{behindOf, printedFrom, printedAnswers, printedOf}
 use Rattle.printing.proofs.Shown.{none-printed, line-of-query, answers-printed}
 use Rattle.settling.specs.declared.Settlement.{Settlement}
 use Rattle.settling.specs.Settled.{textBytes, answerRoom, settledRun, textOf, settledText, Settles}
@@ -27,7 +28,7 @@ use Rattle.settling.proofs.Settling.{rowFor, accepted-run}
 
 -- the answers to the file's queries, by the records that a call leaves: a byte for each
 abbrev pub saidIn : List ℕ → List ℕ → ℕ → ℕ → List ℕ
-saidIn file journal used limit = map answerByte (answersOf (hypothesesIn file) (listIn file) (leftIn file journal used limit) (queriesIn file))
+saidIn file journal used limit = map answerByte (answersOf (hypothesesIn file) (listIn file) (recordsLeft file journal used limit) (queriesIn file))
 
 -- yes is the word for what is on record alone
 said-yes : (on finished : Bool) → wordOf (answerByte (answerOf on finished)) ≡ bytes "yes" → on ≡ true
@@ -47,8 +48,7 @@ module _ (file journal : List ℕ) (used limit : ℕ) (asked : Bool) (text : Lis
   none-in-short : ltb (length text) textBytes ≡ true → length (queriesIn file) ≤ 0
   unfolding answerRoom
   none-in-short e =
-      let over : length (rowFor text) < length (queriesIn file) → ⊥ = λ h.
-      accepted-exactly file journal used limit (rowFor text) .0 (accepted-run settles accepted) 8 0 (answers-too-short h) in
+      let enough = lets-pass file journal used limit (rowFor text) (accepted-run settles accepted) .answers-long in
       let none-there : length (rowFor text) ≡ 0 = rw e in
       omega arith
 
@@ -64,7 +64,7 @@ module _ (file journal : List ℕ) (used limit : ℕ) (asked : Bool) (text : Lis
   as-many : length (saidIn file journal used limit) ≡ length (queriesIn file)
   unfolding answersOf
   as-many =
-      length-map (answersOf (hypothesesIn file) (listIn file) (leftIn file journal used limit) (queriesIn file)) answerByte ∙ length-map (queriesIn file) _
+      length-map (answersOf (hypothesesIn file) (listIn file) (recordsLeft file journal used limit) (queriesIn file)) answerByte ∙ length-map (queriesIn file) _
 
   -- the line of query i stands between the lines of the queries before it and those of the queries behind it
   pub line-at : (i : ℕ) → i < length (queriesIn file)
@@ -77,11 +77,11 @@ module _ (file journal : List ℕ) (used limit : ℕ) (asked : Bool) (text : Lis
   said-at : (i : ℕ) → i < length (queriesIn file)
       → getD (saidIn file journal used limit) i 0
       ≡ answerByte
-      (answerOf (isOnRecord (listIn file) (leftIn file journal used limit) (queryAt file i))
-      (isFinished (hypothesesIn file) (listIn file) (leftIn file journal used limit)))
+      (answerOf (isOnRecord (listIn file) (recordsLeft file journal used limit) (queryAt file i))
+      (isFinished (hypothesesIn file) (listIn file) (recordsLeft file journal used limit)))
   unfolding answersOf
   said-at i low =
-      let left = leftIn file journal used limit in
+      let left = recordsLeft file journal used limit in
       let answer : Formula → Answer = λ (x : Formula). answerOf (isOnRecord (listIn file) left x) (isFinished (hypothesesIn file) (listIn file) left) in
       getD-map answerByte (map answer (queriesIn file)) i Open 0 (rw (length-map (queriesIn file) answer) low)
       ∙ ap answerByte (getD-map answer (queriesIn file) i True Open low)
@@ -91,10 +91,10 @@ module _ (file journal : List ℕ) (used limit : ℕ) (asked : Bool) (text : Lis
   pub yes-is-written : AreBytes journal → (i : ℕ) → i < length (queriesIn file)
       → wordOf (getD (saidIn file journal used limit) i 0) ≡ bytes "yes"
       → (found : List ℕ) → take (settled .report .used) found ≡ take (settled .report .used) after
-      → isOnRecord (listIn file) (keptIn file found (settled .report .used)) (queryAt file i) ≡ true
+      → isOnRecord (listIn file) (keptPart file found (settled .report .used)) (queryAt file i) ≡ true
   unfolding settledRun
   yes-is-written plain i low word found same =
       let begins = rw (settles .report-now, settles .journal-now) at same in
       rw (settles .report-now, read-back file journal used limit (rowFor text) (accepted-run settles accepted) plain found begins)
-      (said-yes (isOnRecord (listIn file) (leftIn file journal used limit) (queryAt file i))
-      (isFinished (hypothesesIn file) (listIn file) (leftIn file journal used limit)) (rw (said-at i low) at word))
+      (said-yes (isOnRecord (listIn file) (recordsLeft file journal used limit) (queryAt file i))
+      (isFinished (hypothesesIn file) (listIn file) (recordsLeft file journal used limit)) (rw (said-at i low) at word))

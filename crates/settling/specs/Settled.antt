@@ -8,7 +8,7 @@ use lib.ListN.{length, take, drop, getD, replicate}
 use lib.Dec.{eqb, ltb, leb}
 use Rattle.infon.specs.Journal.{recordBytes, markHigh, markLow}
 use Rattle.infon.specs.Run.{Outcome, run}
-use Rattle.printing.specs.Placed.{Prints}
+use Rattle.writing.specs.Placed.{Prints}
 use Rattle.printing.specs.Printed.{printedRun}
 use Rattle.settling.specs.declared.Settlement.{Settlement}
 

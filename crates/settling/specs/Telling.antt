@@ -6,7 +6,8 @@ use mathlib.Core.List.{List}
 use lib.ListN.{length}
 use lib.Dec.{eqb}
 use Rattle.infon.specs.declared.Report.{Report}
-use Rattle.infon.specs.Policy.{mostBytes, passed, code2}
+use Rattle.infon.specs.declared.Verdict.the-variants.{Passed}
+use Rattle.infon.specs.Policy.{mostBytes, code2}
 use Rattle.infon.specs.Journal.{recordBytes}
 use Rattle.settling.specs.declared.Settlement.{Settlement}
 use Rattle.settling.specs.Settled.{droppedBy}
@@ -26,4 +27,4 @@ settlementOf report used begun count =
 -- what is known of a run whose answers are shown: at most 1,024 there are, and only a file within its limits is not refused
 pub record Shows (file : List ℕ) (code : ℕ) (answers : List ℕ) : Type 0 where
   pub few : length answers ≤ 1024
-  pub within : code ≡ 0 → (code2 file ≡ passed) × (length file ≤ mostBytes)
+  pub within : code ≡ 0 → (code2 file ≡ Passed) × (length file ≤ mostBytes)

@@ -1,12 +1,12 @@
 // What a call makes of a policy file and a journal, on slices and before anything is written: the journal grown, the text to print,
 // and what of the journal was not kept.
+use infon::RECORD_BYTES;
 use infon::Report;
 use reader::MARK_HIGH;
 use reader::MARK_LOW;
-use reader::RECORD_BYTES;
 ghost use mathlib.Core.Path.{_≡_};
 ghost use lib.ListN.{take, getD};
-ghost use Rattle.printing.specs.Placed.{Prints};
+ghost use Rattle.writing.specs.Placed.{Prints};
 ghost use Rattle.settling.specs.Settled.{answerRoom, textOf, restOf, isBegun, droppedBy, Settles};
 ghost use Rattle.settling.specs.Telling.{settlementOf, Shows};
 
@@ -18,7 +18,13 @@ pub struct Settlement {
     pub length: usize,
 }
 
-const TEXT_BYTES: usize = 65536;
+// A text of so many bytes holds whatever is printed, and a journal of so many every record of the longest list; a limit of so many
+// records is never reached.
+pub const TEXT_BYTES: usize = 65536;
+
+pub const JOURNAL_BYTES: usize = 36864;
+
+pub const EVERY_RECORD: usize = 4096;
 
 const MOST_ANSWERS: usize = 1024;
 
@@ -128,7 +134,7 @@ pub fn settle(
 {
     let begun = is_begun(journal, used);
     let room = answer_room(text);
-    let mut answers = [0u8; 1024];
+    let mut answers = [0u8; MOST_ANSWERS];
     let report = run::run(file, journal, used, limit, &mut answers[..room]);
     let length = show(
         file,

@@ -2,7 +2,7 @@
 // whether a text is a formula.
 ghost use mathlib.Core.Path.{_≡_};
 ghost use mathlib.Core.List.{[], _∷_};
-ghost use Prim.Native.Nat.{ℕ, _+_, _≤_, _<_};
+ghost use Prim.Native.Nat.{_+_, _≤_, _<_};
 ghost use lib.ListN.{length, drop};
 ghost use Rattle.infon.specs.Bytes.{alike};
 ghost use Rattle.infon.specs.Formula.{isNameByte, isName, formulaOf};

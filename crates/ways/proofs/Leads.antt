@@ -13,8 +13,8 @@ use lib.Bits.{bitAnd}
 use borrow.Author.Tests.{eqb-true, eq-eqb, ltb-true, ltb-false}
 use Rattle.infon.specs.declared.Way.the-variants.{Weaken, Both, Apply, Attach}
 use Rattle.infon.proofs.Rows.{and-true, true-and, decided, not-true-false}
-use Rattle.table.specs.Table.{cell}
-use Rattle.table.specs.Tests.{givesIn, isMarked, premisesMarked, leadsTo}
+use Rattle.formulas.specs.Table.{cell}
+use Rattle.formulas.specs.Tests.{givesIn, isMarked, premisesMarked, leadsTo}
 use Rattle.links.specs.Chains.{FirstFrom, ChainOf}
 use Rattle.ways.specs.Search.{leastBelow, isWhole}
 use Rattle.ways.proofs.Firsts.{found-least, none-least}

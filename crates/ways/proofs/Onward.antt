@@ -13,8 +13,8 @@ use Rattle.infon.specs.declared.Record.{Record}
 use Rattle.infon.specs.Formula.{Formula}
 use Rattle.infon.specs.Bytes.{firstOf}
 use Rattle.infon.specs.Journal.{isGood, numbersFrom, allWays, recordsFor, allRecords, next}
-use Rattle.table.specs.Tests.{goodIn, Held}
-use Rattle.table.proofs.Given.{good-in}
+use Rattle.formulas.specs.Tests.{goodIn, Held}
+use Rattle.formulas.proofs.Given.{good-in}
 use Rattle.ways.specs.declared.Least.{Least}
 use Rattle.ways.specs.declared.Least.the-variants.{By, Missing}
 use Rattle.ways.specs.Search.{dueWayIn, nextIn}

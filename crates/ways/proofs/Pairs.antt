@@ -16,9 +16,9 @@ use Rattle.infon.specs.declared.Way.the-variants.{Both, Apply, Attach}
 use Rattle.infon.specs.Bytes.{firstOf}
 use Rattle.infon.specs.Journal.{numbersFrom}
 use Rattle.infon.proofs.Rows.{and-true, true-and, decided, not-true-false}
-use Rattle.table.specs.Table.{cell}
-use Rattle.table.specs.Tests.{isMarked, leadsTo}
-use Rattle.table.proofs.Given.{marked-below}
+use Rattle.formulas.specs.Table.{cell}
+use Rattle.formulas.specs.Tests.{isMarked, leadsTo}
+use Rattle.formulas.proofs.Given.{marked-below}
 use Rattle.links.specs.Chains.{FirstFrom, ChainOf}
 use Rattle.ways.specs.declared.Least.the-variants.{By, Missing}
 use Rattle.ways.specs.Search.{leastOf, leastAmong, pairsOf, conditionIn}

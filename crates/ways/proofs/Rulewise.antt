@@ -13,8 +13,8 @@ use Rattle.infon.specs.declared.Way.the-variants.{Hypothesis, Given, Weaken, Le
 use Rattle.infon.specs.Bytes.{firstOf}
 use Rattle.infon.specs.Journal.{numbersFrom, allWays}
 use Rattle.infon.proofs.Ascending.{first-passed, first-failed}
-use Rattle.table.specs.Table.{cell}
-use Rattle.table.specs.Tests.{givesIn, isMarked, premisesMarked, leadsTo, goodIn}
+use Rattle.formulas.specs.Table.{cell}
+use Rattle.formulas.specs.Tests.{givesIn, isMarked, premisesMarked, leadsTo, goodIn}
 use Rattle.ways.specs.declared.Least.{Least}
 use Rattle.ways.specs.declared.Least.the-variants.{By, Missing}
 use Rattle.ways.specs.Search.{leastPremise, isWhole, leastWhole, leastOf, leastAmong, pairsOf, lastWays, leastWayIn, dueWayIn}

@@ -9,8 +9,8 @@ use Rattle.infon.specs.declared.Way.the-variants.{Both, Apply, Attach}
 use Rattle.infon.specs.declared.Record.{Record}
 use Rattle.infon.specs.Bytes.{firstOf}
 use Rattle.infon.specs.Journal.{numbersFrom, eachPair, allWays, allRecords}
-use Rattle.table.specs.Table.{cell}
-use Rattle.table.specs.Tests.{kindAt, leftAt, isMarked, leadsTo, goodIn}
+use Rattle.formulas.specs.Table.{cell}
+use Rattle.formulas.specs.Tests.{kindAt, leftAt, isMarked, leadsTo, goodIn}
 use Rattle.ways.specs.declared.Least.{Least}
 use Rattle.ways.specs.declared.Least.the-variants.{By, Missing}
 

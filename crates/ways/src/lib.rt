@@ -1,24 +1,25 @@
 // The least way to a formula, found along chains of formulas that share a part or a bottom.
+use formulas::BOTTOM;
+use formulas::CONJUNCTION;
+use formulas::HYPOTHESIS;
+use formulas::IMPLICATION;
+use formulas::KIND;
+use formulas::LEFT;
+use formulas::RIGHT;
+use formulas::TRUTH;
 use infon::Way;
 use links::BOTTOMS;
 use links::LEFTS;
 use links::NEXTS;
 use links::RIGHTS;
-use rules::CONJUNCTION;
-use rules::IMPLICATION;
-use rules::TRUTH;
-use table::BOTTOM;
-use table::HYPOTHESIS;
-use table::KIND;
-use table::LEFT;
-use table::RIGHT;
 ghost use mathlib.Core.Path.{_≡_};
 ghost use Prim.Native.Nat.{_+_, _<_, _≤_};
 ghost use mathlib.Core.List.{map};
 ghost use lib.ListN.{length};
+ghost use Rattle.formulas.specs.Table.{tableRows, tableCells, tableColumns};
 ghost use Rattle.infon.specs.declared.Way.the-variants.{Weaken, Both, Apply, Attach};
 ghost use Rattle.infon.specs.Journal.{numbersFrom};
-ghost use Rattle.links.specs.Chains.{ChainOf, Ready};
+ghost use Rattle.links.specs.Chains.{chainCells, ChainOf, Searchable};
 ghost use Rattle.ways.specs.Search.{leastPremise, leastWhole, leastAmong, pairsOf, lastWays, leastWayIn, dueWayIn, conditionIn};
 
 // The answer of a search for a way.
@@ -29,10 +30,10 @@ pub enum Least {
 
 // Rule 3: the least recorded formula that weakens to f, n where there is none.
 fn stronger(table: &[u16], links: &[u16], marks: &[u8], n: usize, f: usize) -> usize
-    requires { ⌜ Ready (now table) (now links) (now marks) n × (f < n) ⌝ }
+    requires { ⌜ Searchable (now table) (now links) (now marks) n × (f < n) ⌝ }
     ensures { λ r. ⌜ r ≡ leastPremise Weaken (now (table .entry)) n (now (marks .entry)) f ⌝ }
 {
-    let x = rules::cell_at(table, BOTTOM, f);
+    let x = formulas::cell_at(table, BOTTOM, f);
     let mut p = links::linked_at(links, BOTTOMS + x);
     while p < n {
         if rules::is_marked(marks, n, p) {
@@ -56,7 +57,7 @@ fn whole_with(
     column: usize,
     at: usize,
 ) -> usize
-    requires { ⌜ Ready (now table) (now links) (now marks) n × (f < n) × (column < 6) × (at + 8192 ≤ length (now links))
+    requires { ⌜ Searchable (now table) (now links) (now marks) n × (f < n) × (column < tableColumns) × (at + chainCells ≤ length (now links))
         × ChainOf (now table) column n (now links) at ⌝ }
     ensures { λ r. ⌜ r ≡ leastWhole column (now (table .entry)) n (now (marks .entry)) f ⌝ }
 {
@@ -73,13 +74,13 @@ fn whole_with(
 }
 
 // Rule 6: f from both its parts.
-fn joined(table: &[u16], marks: &[u8], n: usize, f: usize) -> Least
-    requires { ⌜ (n ≤ 4096) × (24576 ≤ length (now table)) × (n ≤ length (now marks)) × (f < n) ⌝ }
+fn combined(table: &[u16], marks: &[u8], n: usize, f: usize) -> Least
+    requires { ⌜ (n ≤ tableRows) × (tableCells ≤ length (now table)) × (n ≤ length (now marks)) × (f < n) ⌝ }
     ensures { λ r. ⌜ r ≡ leastAmong (pairsOf Both n) (now (table .entry)) n (now (marks .entry)) f ⌝ }
 {
-    if rules::cell_at(table, KIND, f) == CONJUNCTION {
-        let left = rules::cell_at(table, LEFT, f);
-        let right = rules::cell_at(table, RIGHT, f);
+    if formulas::cell_at(table, KIND, f) == CONJUNCTION {
+        let left = formulas::cell_at(table, LEFT, f);
+        let right = formulas::cell_at(table, RIGHT, f);
         if rules::are_marked(marks, n, left, right) {
             return Least::By(Way::Both(left, right));
         }
@@ -89,12 +90,12 @@ fn joined(table: &[u16], marks: &[u8], n: usize, f: usize) -> Least
 
 // The condition of a recorded implication that is recorded itself, n where q is none.
 fn condition(table: &[u16], marks: &[u8], n: usize, q: usize) -> usize
-    requires { ⌜ (n ≤ 4096) × (24576 ≤ length (now table)) × (n ≤ length (now marks)) × (q < n) ⌝ }
+    requires { ⌜ (n ≤ tableRows) × (tableCells ≤ length (now table)) × (n ≤ length (now marks)) × (q < n) ⌝ }
     ensures { λ r. ⌜ r ≡ conditionIn (now (table .entry)) n (now (marks .entry)) q ⌝ }
 {
     if rules::is_marked(marks, n, q) {
-        if rules::cell_at(table, KIND, q) == IMPLICATION {
-            let p = rules::cell_at(table, LEFT, q);
+        if formulas::cell_at(table, KIND, q) == IMPLICATION {
+            let p = formulas::cell_at(table, LEFT, q);
             if rules::is_marked(marks, n, p) {
                 return p;
             }
@@ -105,7 +106,7 @@ fn condition(table: &[u16], marks: &[u8], n: usize, q: usize) -> usize
 
 // Rule 7: f from the least recorded condition of a recorded implication that ends in f, and the least such implication.
 fn applied(table: &[u16], links: &[u16], marks: &[u8], n: usize, f: usize) -> Least
-    requires { ⌜ Ready (now table) (now links) (now marks) n × (f < n) ⌝ }
+    requires { ⌜ Searchable (now table) (now links) (now marks) n × (f < n) ⌝ }
     ensures { λ r. ⌜ r ≡ leastAmong (pairsOf Apply n) (now (table .entry)) n (now (marks .entry)) f ⌝ }
 {
     let mut first = n;
@@ -128,11 +129,11 @@ fn applied(table: &[u16], links: &[u16], marks: &[u8], n: usize, f: usize) -> Le
 
 // Rule 8: f from its right part, where f is an implication.
 fn attached(table: &[u16], marks: &[u8], n: usize, f: usize) -> Least
-    requires { ⌜ (n ≤ 4096) × (24576 ≤ length (now table)) × (n ≤ length (now marks)) × (f < n) ⌝ }
+    requires { ⌜ (n ≤ tableRows) × (tableCells ≤ length (now table)) × (n ≤ length (now marks)) × (f < n) ⌝ }
     ensures { λ r. ⌜ r ≡ leastAmong (map Attach (numbersFrom 0 n)) (now (table .entry)) n (now (marks .entry)) f ⌝ }
 {
-    if rules::cell_at(table, KIND, f) == IMPLICATION {
-        let p = rules::cell_at(table, RIGHT, f);
+    if formulas::cell_at(table, KIND, f) == IMPLICATION {
+        let p = formulas::cell_at(table, RIGHT, f);
         if rules::is_marked(marks, n, p) {
             return Least::By(Way::Attach(p));
         }
@@ -142,10 +143,10 @@ fn attached(table: &[u16], marks: &[u8], n: usize, f: usize) -> Least
 
 // Rules 6 to 8.
 fn from_parts(table: &[u16], links: &[u16], marks: &[u8], n: usize, f: usize) -> Least
-    requires { ⌜ Ready (now table) (now links) (now marks) n × (f < n) ⌝ }
+    requires { ⌜ Searchable (now table) (now links) (now marks) n × (f < n) ⌝ }
     ensures { λ r. ⌜ r ≡ leastAmong (lastWays n) (now (table .entry)) n (now (marks .entry)) f ⌝ }
 {
-    let both = joined(table, marks, n, f);
+    let both = combined(table, marks, n, f);
     let Least::Missing = both else {
         return both;
     };
@@ -158,13 +159,13 @@ fn from_parts(table: &[u16], links: &[u16], marks: &[u8], n: usize, f: usize) ->
 
 // The least way to f: the least rule, then the least first and the least second premise.
 fn least_way(table: &[u16], links: &[u16], marks: &[u8], n: usize, f: usize) -> Least
-    requires { ⌜ Ready (now table) (now links) (now marks) n × (f < n) ⌝ }
+    requires { ⌜ Searchable (now table) (now links) (now marks) n × (f < n) ⌝ }
     ensures { λ r. ⌜ r ≡ leastWayIn (now (table .entry)) n (now (marks .entry)) f ⌝ }
 {
-    if rules::cell_at(table, HYPOTHESIS, f) == 1 {
+    if formulas::cell_at(table, HYPOTHESIS, f) == 1 {
         return Least::By(Way::Hypothesis);
     }
-    if rules::cell_at(table, KIND, f) == TRUTH {
+    if formulas::cell_at(table, KIND, f) == TRUTH {
         return Least::By(Way::Given);
     }
     let weaken = stronger(table, links, marks, n, f);
@@ -184,7 +185,7 @@ fn least_way(table: &[u16], links: &[u16], marks: &[u8], n: usize, f: usize) -> 
 
 // The least way to f where f is not recorded yet.
 pub fn due_way(table: &[u16], links: &[u16], marks: &[u8], n: usize, f: usize) -> Least
-    requires { ⌜ Ready (now table) (now links) (now marks) n × (f < n) ⌝ }
+    requires { ⌜ Searchable (now table) (now links) (now marks) n × (f < n) ⌝ }
     ensures { λ r. ⌜ r ≡ dueWayIn (now (table .entry)) n (now (marks .entry)) f ⌝ }
 {
     if rules::is_marked(marks, n, f) {

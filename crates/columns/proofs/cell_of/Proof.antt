@@ -4,6 +4,7 @@ use native.Mathlib.Omega.{arith}
 use borrow.Author.Needs.{needs}
 use mathlib.Core.Path.{_≡_, _∙_}
 use Rattle.columns.specs.Columns.{columnOf, nothing}
+use Rattle.columns.proofs.Steps.{form-row}
 use Rattle.columns.proofs.cell_of.Statement.{statement}
 use Rattle.columns.proofs.cell_of.Tie as tie
 
@@ -21,6 +22,11 @@ right-of-requires c κs = search needs
 
 bottom-of-requires : tie.Need-bottom-of-requires
 bottom-of-requires c κs = search needs
+
+base-of-requires : tie.Need-base-of-requires
+base-of-requires c κs =
+    let owner = c .before .before .before .before .before .pre .0 in
+    (owner .inside, omega (arith, form-row _ _ _ (owner .owner .0)))
 
 returns : tie.Need-returns
 unfolding columnOf
@@ -43,11 +49,16 @@ unfolding columnOf
 returns-5 c = c .bottom-of .ensures ∙ rw (c .before .match .keys5)
 
 returns-6 : tie.Need-returns-6
+unfolding columnOf
+returns-6 c = c .base-of .ensures ∙ rw (c .before .match .keys6)
+
+returns-7 : tie.Need-returns-7
 unfolding columnOf nothing
-returns-6 c =
+returns-7 c =
     let none = c .match .rest in
     let s = c .before .before .before .before .before in
-    let last : s .args .column ≡ 5 = omega (arith, s .pre .2, none .1, none .0 .1, none .0 .0 .1, none .0 .0 .0 .1, none .0 .0 .0 .0 .1) in
+    let last : s .args .column ≡ 5 =
+    omega (arith, s .pre .2, none .1, none .0 .1, none .0 .0 .1, none .0 .0 .0 .1, none .0 .0 .0 .0 .1, none .0 .0 .0 .0 .0 .1) in
     rw last
 
 pub cell-of-spec : {M : Type 1} → statement M
@@ -59,9 +70,11 @@ cell-of-spec =
     left-of-requires
     right-of-requires
     bottom-of-requires
+    base-of-requires
     returns
     returns-2
     returns-3
     returns-4
     returns-5
-    returns-6)
+    returns-6
+    returns-7)

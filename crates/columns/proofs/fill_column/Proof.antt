@@ -2,7 +2,7 @@
 -- Assumes nothing.
 use borrow.Author.Needs.{needs}
 use native.Mathlib.Omega.{arith}
-use Prim.Native.Nat.{_*_, _≤_, _-_}
+use Prim.Native.Nat.{_≤_, _-_}
 use mathlib.Core.Path.{_≡_, refl}
 use Rattle.columns.specs.Columns.{columnOf, withColumn}
 use Rattle.columns.proofs.Steps.{column-turn, column-over, column-size}
@@ -11,7 +11,7 @@ use Rattle.columns.proofs.fill_column.Tie as tie
 
 abbrev Inv-loop : tie.InvT-loop
 Inv-loop nodes cand keys owners n column table₀ i₀ table i =
-    (i ≤ n) × (table ≡ withColumn (column * 4096) (columnOf nodes cand keys owners column) i table₀)
+    (i ≤ n) × (table ≡ withColumn column (columnOf nodes cand keys owners column) i table₀)
 
 abbrev μ-loop : tie.MeasureT-loop
 μ-loop nodes cand keys owners n column table₀ i₀ table i = n - i
@@ -33,28 +33,32 @@ cell-of-requires c κs =
       s .pre .2,
     )
 
-mul-table : tie.Need-mul-table Inv-loop μ-loop
-mul-table c = search needs
+cast-set-cell : tie.Need-cast-set-cell Inv-loop μ-loop
+cast-set-cell c = search needs
 
-add-table : tie.Need-add-table Inv-loop μ-loop
-add-table c = let s = c .before .before .before .before .before .before .before .before in omega (arith, s .pre .0 .owners-are .few)
-
-mul-table-2 : tie.Need-mul-table-2 Inv-loop μ-loop
-mul-table-2 c = let s = c .before .before .before .before .before .before .before .before in omega (arith, s .pre .0 .owners-are .few)
-
-slice-write-table : tie.Need-slice-write-table Inv-loop μ-loop
-slice-write-table c =
-    let s = c .before .before .before .before .before .before .before .before in
-    omega (arith, s .pre .0 .owners-are .few, s .pre .0 .table-long, column-size _ _ _ _ _ (c .before .before .loop .inv .1))
+set-cell-requires : tie.Need-set-cell-requires Inv-loop μ-loop
+set-cell-requires c κs =
+    let s = c .before .before .before .before .before .before .before .before .before in (
+      (
+        omega (arith, s .pre .0 .table-long, column-size _ _ _ _ _ (c .before .before .before .loop .inv .1)),
+        s .pre .2,
+        omega (arith, s .pre .0 .owners-are .few),
+      ),
+      search needs,
+    )
 
 add-i : tie.Need-add-i Inv-loop μ-loop
-add-i c = let s = c .before .before .before .before .before .before .before .before in omega (arith, s .pre .0 .owners-are .few)
+add-i c = search needs
 
 loop-less : tie.Need-loop-less Inv-loop μ-loop
 loop-less c = search needs
 
 loop-again : tie.Need-loop-again Inv-loop μ-loop
-loop-again c = (omega arith, column-turn _ _ (c .before .before .loop .i) _ _ _ _ (c .before .before .loop .inv .1) refl (c .cell-of .ensures))
+loop-again c =
+    let at = c .before .before .before .before .before .before in (
+      omega (arith, c .before .before .before .before .before .loop-test .taken),
+      column-turn _ _ (at .loop .i) _ _ _ _ (at .loop .inv .1) (c .before .before .before .before .cell-of .ensures) (c .before .before .set-cell .ensures),
+    )
 
 same-length : tie.Need-same-length Inv-loop μ-loop
 same-length c = column-size _ _ _ _ _ (c .before .loop .inv .1)
@@ -70,10 +74,8 @@ fill-column-spec =
     μ-loop
     loop-holds
     cell-of-requires
-    mul-table
-    add-table
-    mul-table-2
-    slice-write-table
+    cast-set-cell
+    set-cell-requires
     add-i
     loop-less
     loop-again

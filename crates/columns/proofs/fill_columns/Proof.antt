@@ -5,16 +5,17 @@ use native.Mathlib.Omega.{arith}
 use Prim.Native.Nat.{_≤_, _-_}
 use mathlib.Core.Path.{_≡_, refl, _∙_, ap}
 use lib.ListN.{length}
+use Rattle.formulas.specs.Table.{tableColumns}
 use Rattle.columns.specs.Columns.{filledTo}
-use Rattle.columns.proofs.Filled.{length-to, columns-turn, columns-over}
+use Rattle.columns.proofs.Columnwise.{length-to, columns-turn, columns-over}
 use Rattle.columns.proofs.fill_columns.Statement.{statement}
 use Rattle.columns.proofs.fill_columns.Tie as tie
 
 abbrev Inv-loop : tie.InvT-loop
-Inv-loop nodes cand keys owners n table₀ column₀ table column = (column ≤ 6) × (table ≡ filledTo column nodes cand keys owners n table₀)
+Inv-loop nodes cand keys owners n table₀ column₀ table column = (column ≤ tableColumns) × (table ≡ filledTo column nodes cand keys owners n table₀)
 
 abbrev μ-loop : tie.MeasureT-loop
-μ-loop nodes cand keys owners n table₀ column₀ table column = 6 - column
+μ-loop nodes cand keys owners n table₀ column₀ table column = tableColumns - column
 
 size : (c : tie.At-loop Inv-loop μ-loop) → length (c .loop .table) ≡ length (c .before .before .before .before .before .before .args .table .now)
 size c = ap length (c .loop .inv .1) ∙ length-to _ _ _ _ _ _ (c .loop .column)

@@ -2,20 +2,11 @@
 -- Assumes nothing.
 use native.Mathlib.Omega.{arith}
 use borrow.Author.Needs.{needs}
-use Prim.Native.Nat.{_/_, _≤_, _<_}
-use mathlib.Core.Path.{_∙_}
-use lib.ListN.{length, getD}
-use borrow.Author.Tests.{lt-ltb, le-ltb}
-use Rattle.columns.specs.Columns.{stride, leftColumn}
-use Rattle.columns.proofs.Steps.{form-row, form-table, left-is-form}
+use Prim.Native.Nat.{ℕ, _≤_}
+use mathlib.Core.Path.{_∙_, subst}
+use Rattle.columns.proofs.Steps.{form-row, form-table, left-is-form, left-none, left-some}
 use Rattle.columns.proofs.left_of.Statement.{statement}
 use Rattle.columns.proofs.left_of.Tie as tie
-
-row : (c : tie.Start) → getD (c .args .owners .now) (c .args .i) 0 / stride < 1024
-row c = form-row _ _ _ (c .pre .owner .0)
-
-long : (c : tie.Start) → 7168 ≤ length (c .args .nodes .now)
-long c = form-table _ _ _ (c .pre .owner .0)
 
 mul-owner : tie.Need-mul-owner
 mul-owner c = search needs
@@ -26,27 +17,25 @@ shared-slice-read-owner c = search needs
 cast-owner : tie.Need-cast-owner
 cast-owner c = omega (arith, c .shared-slice-known4 .given (c .before .before .before .before .args .i))
 
-mul-if1 : tie.Need-mul-if1
-mul-if1 c = omega (arith, row (c .before .before .before .before))
-
-shared-slice-read-if1 : tie.Need-shared-slice-read-if1
-shared-slice-read-if1 c = omega (arith, row (c .before .before .before .before .before), long (c .before .before .before .before .before))
+cell-at-requires : tie.Need-cell-at-requires
+cell-at-requires c κs =
+    let form = c .before .before .before .before .pre .owner .0 in
+    ((omega arith, form-row _ _ _ form), form-table _ _ _ form)
 
 returns : tie.Need-returns
-unfolding leftColumn
-returns c = rw (lt-ltb _ _ (c .if1 .taken))
+returns c = left-none _ _ _ _ _ (c .before .cell-at .ensures) (c .if1 .taken)
 
-add-number-at : tie.Need-add-number-at
-add-number-at c = omega (arith, row (c .before .before .before .before .before .before))
+add-form-number : tie.Need-add-form-number
+add-form-number c = omega (arith, form-row _ _ _ (c .before .before .before .before .before .before .pre .owner .0))
 
-number-at-requires : tie.Need-number-at-requires
-number-at-requires c κs =
+form-number-requires : tie.Need-form-number-requires
+form-number-requires c κs =
     let s = c .before .before .before .before .before .before in
-    (left-is-form _ _ _ (s .pre .owner .0) (c .if1 .left) (s .pre .owner .1), s .pre .cand-long)
+    let two = subst (λ (k : ℕ). 2 ≤ k) (c .before .cell-at .ensures) (c .if1 .left) in
+    (left-is-form _ _ _ (s .pre .owner .0) two (s .pre .owner .1), s .pre .cand-long)
 
 returns-2 : tie.Need-returns-2
-unfolding leftColumn
-returns-2 c = c .number-at .ensures ∙ rw (le-ltb _ _ (c .before .if1 .left))
+returns-2 c = c .form-number .ensures ∙ left-some _ _ _ _ _ (c .before .before .cell-at .ensures) (c .before .if1 .left)
 
 pub left-of-spec : {M : Type 1} → statement M
 left-of-spec =
@@ -55,9 +44,8 @@ left-of-spec =
     mul-owner
     shared-slice-read-owner
     cast-owner
-    mul-if1
-    shared-slice-read-if1
+    cell-at-requires
     returns
-    add-number-at
-    number-at-requires
+    add-form-number
+    form-number-requires
     returns-2)

@@ -2,20 +2,11 @@
 -- Assumes nothing.
 use native.Mathlib.Omega.{arith}
 use borrow.Author.Needs.{needs}
-use Prim.Native.Nat.{_+_, _/_, _≤_, _<_}
-use mathlib.Core.Path.{_∙_}
-use lib.ListN.{length, getD}
-use borrow.Author.Tests.{lt-ltb, le-ltb}
-use Rattle.columns.specs.Columns.{stride, rightColumn}
-use Rattle.columns.proofs.Steps.{form-row, form-table, left-is-form, right-is-form}
+use Prim.Native.Nat.{ℕ, _≤_}
+use mathlib.Core.Path.{_∙_, subst}
+use Rattle.columns.proofs.Steps.{form-row, form-table, left-is-form, right-is-form, right-none, right-some}
 use Rattle.columns.proofs.right_of.Statement.{statement}
 use Rattle.columns.proofs.right_of.Tie as tie
-
-row : (c : tie.Start) → getD (c .args .owners .now) (c .args .i) 0 / stride < 1024
-row c = form-row _ _ _ (c .pre .owner .0)
-
-long : (c : tie.Start) → 7168 ≤ length (c .args .nodes .now)
-long c = form-table _ _ _ (c .pre .owner .0)
 
 mul-owner : tie.Need-mul-owner
 mul-owner c = search needs
@@ -26,41 +17,33 @@ shared-slice-read-owner c = search needs
 cast-owner : tie.Need-cast-owner
 cast-owner c = omega (arith, c .shared-slice-known4 .given (c .before .before .before .before .args .i))
 
-mul-if1 : tie.Need-mul-if1
-mul-if1 c = omega (arith, row (c .before .before .before .before))
-
-shared-slice-read-if1 : tie.Need-shared-slice-read-if1
-shared-slice-read-if1 c = omega (arith, row (c .before .before .before .before .before), long (c .before .before .before .before .before))
+cell-at-requires : tie.Need-cell-at-requires
+cell-at-requires c κs =
+    let form = c .before .before .before .before .pre .owner .0 in
+    ((omega arith, form-row _ _ _ form), form-table _ _ _ form)
 
 returns : tie.Need-returns
-unfolding rightColumn
-returns c = rw (lt-ltb _ _ (c .if1 .taken))
+returns c = right-none _ _ _ _ _ (c .before .cell-at .ensures) (c .if1 .taken)
 
 add-left : tie.Need-add-left
-add-left c = omega (arith, row (c .before .before .before .before .before .before))
+add-left c = omega (arith, form-row _ _ _ (c .before .before .before .before .before .before .pre .owner .0))
 
-add-right : tie.Need-add-right
-add-right c = omega (arith, row (c .before .before .before .before .before .before))
+cell-at-requires-2 : tie.Need-cell-at-requires-2
+cell-at-requires-2 c κs =
+    let owner = c .before .before .before .before .before .before .pre .owner in
+    let two = subst (λ (k : ℕ). 2 ≤ k) (c .before .cell-at .ensures) (c .if1 .left) in
+    ((omega arith, form-row _ _ _ (left-is-form _ _ _ (owner .0) two (owner .1))), form-table _ _ _ (owner .0))
 
-mul-right : tie.Need-mul-right
-mul-right c = omega (arith, row (c .before .before .before .before .before .before))
-
-shared-slice-read-right : tie.Need-shared-slice-read-right
-shared-slice-read-right c =
+form-number-requires : tie.Need-form-number-requires
+form-number-requires c κs =
     let s = c .before .before .before .before .before .before .before in
-    omega (arith, long s, form-row _ _ _ (left-is-form _ _ _ (s .pre .owner .0) (c .before .if1 .left) (s .pre .owner .1)))
-
-cast-right : tie.Need-cast-right
-cast-right c = let s = c .before .before .before .before .before .before .before in omega (arith, c .shared-slice-known6 .given (3072 + (getD (s .args .owners .now) (s .args .i) 0 / stride + 1)))
-
-number-at-requires : tie.Need-number-at-requires
-number-at-requires c κs =
-    let s = c .before .before .before .before .before .before .before in
-    (right-is-form _ _ _ (s .pre .owner .0) (c .before .if1 .left) (s .pre .owner .1), s .pre .cand-long)
+    let two = subst (λ (k : ℕ). 2 ≤ k) (c .before .before .cell-at .ensures) (c .before .if1 .left) in
+    (rw (c .cell-at2 .ensures) (right-is-form _ _ _ (s .pre .owner .0) two (s .pre .owner .1)), s .pre .cand-long)
 
 returns-2 : tie.Need-returns-2
-unfolding rightColumn
-returns-2 c = c .number-at .ensures ∙ rw (le-ltb _ _ (c .before .before .if1 .left))
+returns-2 c =
+    c .form-number .ensures
+    ∙ right-some _ _ _ _ _ (c .before .before .before .cell-at .ensures) (c .before .before .if1 .left) _ (c .before .cell-at2 .ensures)
 
 pub right-of-spec : {M : Type 1} → statement M
 right-of-spec =
@@ -69,13 +52,9 @@ right-of-spec =
     mul-owner
     shared-slice-read-owner
     cast-owner
-    mul-if1
-    shared-slice-read-if1
+    cell-at-requires
     returns
     add-left
-    add-right
-    mul-right
-    shared-slice-read-right
-    cast-right
-    number-at-requires
+    cell-at-requires-2
+    form-number-requires
     returns-2)

@@ -5,7 +5,7 @@ use Prim.Native.Nat.{_≤_, _-_}
 use mathlib.Core.Path.{_≡_}
 use lib.ListN.{length}
 use Rattle.io.proofs.Counting.{counts}
-use Rattle.input.proofs.Held.{held}
+use Rattle.input.proofs.Within.{held}
 use borrow.Author.Needs.{needs}
 use native.Mathlib.Omega.{arith}
 use Rattle.input.proofs.read_all.Statement.{statement}

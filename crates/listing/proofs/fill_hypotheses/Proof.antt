@@ -2,10 +2,10 @@
 -- Assumes nothing.
 use borrow.Author.Needs.{needs}
 use native.Mathlib.Omega.{arith}
-use Prim.Native.Nat.{ℕ, _+_, _-_, _≤_}
-use mathlib.Core.Path.{refl, subst}
+use Prim.Native.Nat.{ℕ, _-_, _≤_}
+use mathlib.Core.Path.{subst}
 use Rattle.prefix.proofs.Shown.{table-long}
-use Rattle.listing.proofs.Marks.{line-is-form, line-row, line-inside, line-further, MarksTo, marks-begin, mark-room, mark-number, marks-on, marks-over}
+use Rattle.listing.proofs.Marks.{line-is-form, line-row, line-inside, line-further, MarksTo, marks-begin, mark-room, mark-number, mark-fits, marks-on, marks-over}
 use Rattle.listing.proofs.fill_hypotheses.Statement.{statement}
 use Rattle.listing.proofs.fill_hypotheses.Tie as tie
 
@@ -18,99 +18,52 @@ abbrev μ-loop : tie.MeasureT-loop
 loop-holds : tie.Need-loop-holds Inv-loop μ-loop
 loop-holds c = let s = c .before .before .before .before in marks-begin (s .args .file .now) (s .args .table .now) (s .pre .1)
 
-number-at-requires : tie.Need-number-at-requires Inv-loop μ-loop
-number-at-requires c κs =
-    let s = c .before .before .before .before .before .before in
-    (line-is-form _ _ _ _ (s .pre .0) (c .before .loop .r) (c .before .loop .inv .es) (c .before .loop .inv .ahead) (c .loop-test .taken), s .pre .0 .cand-long)
+form-number-requires : tie.Need-form-number-requires Inv-loop μ-loop
+form-number-requires c κs =
+    (line-is-form _ _ _ _ (c .before .before .before .before .before .before .pre .0) _ _ (c .before .loop .inv .ahead) (c .loop-test .taken), c .before .before .before .before .before .before .pre .0 .cand-long)
 
 cast-number : tie.Need-cast-number Inv-loop μ-loop
-cast-number c =
-    let s = c .before .before .before .before .before .before .before in
-    omega (arith, c .number-at .ensures, mark-number _ _ _ _ _ _ _ (s .pre .0) (s .pre .1 .long) (c .before .before .loop .inv) (c .before .loop-test .taken))
+cast-number c = omega (arith, c .form-number .ensures, mark-number _ _ _ _ _ _ _ (c .before .before .before .before .before .before .before .pre .0) (c .before .before .before .before .before .before .before .pre .1 .long) (c .before .before .loop .inv) (c .before .loop-test .taken))
 
-add-line : tie.Need-add-line Inv-loop μ-loop
-add-line c = omega (arith, line-row _ _ _ _ (c .before .before .before .before .before .before .before .pre .0) (c .before .before .loop .r) (c .before .before .loop .inv .es) (c .before .before .loop .inv .ahead) (c .before .loop-test .taken))
-
-mul-line : tie.Need-mul-line Inv-loop μ-loop
-mul-line c = omega (arith, line-row _ _ _ _ (c .before .before .before .before .before .before .before .pre .0) (c .before .before .loop .r) (c .before .before .loop .inv .es) (c .before .before .loop .inv .ahead) (c .before .loop-test .taken))
-
-shared-slice-read-line : tie.Need-shared-slice-read-line Inv-loop μ-loop
-shared-slice-read-line c =
-    let s = c .before .before .before .before .before .before .before .before in
-    let at = c .before .before .before in
-    omega (arith, line-row _ _ _ _ (s .pre .0) (at .loop .r) (at .loop .inv .es) (at .loop .inv .ahead) (c .before .before .loop-test .taken), table-long _ _ (s .pre .0 .held))
-
-cast-line : tie.Need-cast-line Inv-loop μ-loop
-cast-line c = omega (arith, c .shared-slice-known4 .given (5120 + c .before .before .before .loop .r))
+cell-at-requires : tie.Need-cell-at-requires Inv-loop μ-loop
+cell-at-requires c κs =
+    ((omega arith, line-row _ _ _ _ (c .before .before .before .before .before .before .before .pre .0) _ _ (c .before .before .loop .inv .ahead) (c .before .loop-test .taken)), table-long _ _ (c .before .before .before .before .before .before .before .pre .0 .held))
 
 shared-slice-read-letter : tie.Need-shared-slice-read-letter Inv-loop μ-loop
-shared-slice-read-letter c =
-    let s = c .before .before .before .before in
-    line-inside _ _ _ _ (c .before .before .before .before .before .before .before .before .before .pre .0) (s .loop .r) (s .loop .inv .es) (s .loop .inv .ahead) (c .before .before .before .loop-test .taken)
+shared-slice-read-letter c = rw (c .before .cell-at .ensures) (line-inside _ _ _ _ (c .before .before .before .before .before .before .before .before .before .pre .0) _ _ (c .before .before .before .before .loop .inv .ahead) (c .before .before .before .loop-test .taken))
 
-add-old : tie.Need-add-old Inv-loop μ-loop
-add-old c =
-    let s = c .before .before .before .before .before .before .before .before .before in
-    omega (arith, c .before .before .number-at .ensures, mark-number _ _ _ _ _ _ _ (s .pre .0) (s .pre .1 .long) (c .before .before .before .before .loop .inv) (c .before .before .before .loop-test .taken))
-
-mul-old : tie.Need-mul-old Inv-loop μ-loop
-mul-old c =
-    let s = c .before .before .before .before .before .before .before .before .before in
-    omega (arith, c .before .before .number-at .ensures, mark-number _ _ _ _ _ _ _ (s .pre .0) (s .pre .1 .long) (c .before .before .before .before .loop .inv) (c .before .before .before .loop-test .taken))
-
-slice-read-old : tie.Need-slice-read-old Inv-loop μ-loop
-slice-read-old c =
-    let s = c .before .before .before .before .before .before .before .before .before .before in
-    omega (arith, c .before .before .before .number-at .ensures, mark-room _ _ _ _ _ _ _ (s .pre .0) (s .pre .1 .long) (c .before .before .before .before .before .loop .inv) (c .before .before .before .before .loop-test .taken))
+cell-at-requires-2 : tie.Need-cell-at-requires-2 Inv-loop μ-loop
+cell-at-requires-2 c κs = (
+  mark-room _ _ _ _ _ _ _ (c .before .before .before .before .before .before .before .before .before .before .pre .0) (c .before .before .before .before .before .before .before .before .before .before .pre .1 .long) (c .before .before .before .before .before .loop .inv) (c .before .before .before .before .loop-test .taken),
+  omega arith,
+  omega (arith, c .before .before .before .form-number .ensures, mark-number _ _ _ _ _ _ _ (c .before .before .before .before .before .before .before .before .before .before .pre .0) (c .before .before .before .before .before .before .before .before .before .before .pre .1 .long) (c .before .before .before .before .before .loop .inv) (c .before .before .before .before .loop-test .taken)),
+)
 
 mark-requires : tie.Need-mark-requires Inv-loop μ-loop
 mark-requires c κs = search needs
 
-add-table : tie.Need-add-table Inv-loop μ-loop
-add-table c =
-    let s = c .before .before .before .before .before .before .before .before .before .before .before in
-    omega (arith, c .before .before .before .before .number-at .ensures, mark-number _ _ _ _ _ _ _ (s .pre .0) (s .pre .1 .long) (c .before .before .before .before .before .before .loop .inv) (c .before .before .before .before .before .loop-test .taken))
+set-cell-requires : tie.Need-set-cell-requires Inv-loop μ-loop
+set-cell-requires c κs = (
+  (
+    mark-room _ _ _ _ _ _ _ (c .before .before .before .before .before .before .before .before .before .before .before .before .before .pre .0) (c .before .before .before .before .before .before .before .before .before .before .before .before .before .pre .1 .long) (c .before .before .before .before .before .before .before .before .loop .inv) (c .before .before .before .before .before .before .before .loop-test .taken),
+    omega arith,
+    omega (arith, c .before .before .before .before .before .before .form-number .ensures, mark-number _ _ _ _ _ _ _ (c .before .before .before .before .before .before .before .before .before .before .before .before .before .pre .0) (c .before .before .before .before .before .before .before .before .before .before .before .before .before .pre .1 .long) (c .before .before .before .before .before .before .before .before .loop .inv) (c .before .before .before .before .before .before .before .loop-test .taken)),
+  ),
+  mark-fits _ _ _ _ _ _ _ (c .before .before .before .before .before .before .before .before .before .before .before .before .before .pre .0) (c .before .before .before .before .before .before .before .before .before .before .before .before .before .pre .1 .long) (c .before .before .before .before .before .before .before .before .loop .inv) (c .before .before .before .before .before .before .before .loop-test .taken) _ _ _ _
+      (c .before .before .before .before .before .before .form-number .ensures) (c .before .before .cell-at2 .ensures) (c .mark .ensures),
+)
 
-mul-table : tie.Need-mul-table Inv-loop μ-loop
-mul-table c =
-    let s = c .before .before .before .before .before .before .before .before .before .before .before in
-    omega (arith, c .before .before .before .before .number-at .ensures, mark-number _ _ _ _ _ _ _ (s .pre .0) (s .pre .1 .long) (c .before .before .before .before .before .before .loop .inv) (c .before .before .before .before .before .loop-test .taken))
-
-slice-write-table : tie.Need-slice-write-table Inv-loop μ-loop
-slice-write-table c =
-    let s = c .before .before .before .before .before .before .before .before .before .before .before in
-    omega (arith, c .before .before .before .before .number-at .ensures, mark-room _ _ _ _ _ _ _ (s .pre .0) (s .pre .1 .long) (c .before .before .before .before .before .before .loop .inv) (c .before .before .before .before .before .loop-test .taken))
-
-add-r : tie.Need-add-r Inv-loop μ-loop
-add-r c =
-    let s = c .before .before .before .before .before .before in
-    omega (arith, line-row _ _ _ _ (c .before .before .before .before .before .before .before .before .before .before .before .pre .0) (s .loop .r) (s .loop .inv .es) (s .loop .inv .ahead) (c .before .before .before .before .before .loop-test .taken))
-
-mul-r : tie.Need-mul-r Inv-loop μ-loop
-mul-r c =
-    let s = c .before .before .before .before .before .before in
-    omega (arith, line-row _ _ _ _ (c .before .before .before .before .before .before .before .before .before .before .before .pre .0) (s .loop .r) (s .loop .inv .es) (s .loop .inv .ahead) (c .before .before .before .before .before .loop-test .taken))
-
-shared-slice-read-r : tie.Need-shared-slice-read-r Inv-loop μ-loop
-shared-slice-read-r c =
-    let s = c .before .before .before .before .before .before .before .before .before .before .before .before in
-    let at = c .before .before .before .before .before .before .before in
-    omega (arith, line-row _ _ _ _ (s .pre .0) (at .loop .r) (at .loop .inv .es) (at .loop .inv .ahead) (c .before .before .before .before .before .before .loop-test .taken), table-long _ _ (s .pre .0 .held))
-
-cast-r : tie.Need-cast-r Inv-loop μ-loop
-cast-r c = omega (arith, c .shared-slice-known6 .given (3072 + c .before .before .before .before .before .before .before .loop .r))
+cell-at-requires-3 : tie.Need-cell-at-requires-3 Inv-loop μ-loop
+cell-at-requires-3 c κs =
+    ((omega arith, line-row _ _ _ _ (c .before .before .before .before .before .before .before .before .before .before .before .before .before .before .before .before .pre .0) _ _ (c .before .before .before .before .before .before .before .before .before .before .before .loop .inv .ahead) (c .before .before .before .before .before .before .before .before .before .before .loop-test .taken)), table-long _ _ (c .before .before .before .before .before .before .before .before .before .before .before .before .before .before .before .before .pre .0 .held))
 
 loop-less : tie.Need-loop-less Inv-loop μ-loop
-loop-less c =
-    let s = c .before .before .before .before .before .before .before in
-    let at = c .before .before .before .before .before .before in
-    omega (arith, at .loop-test .taken, line-further _ _ _ _ (c .before .before .before .before .before .before .before .before .before .before .before .before .pre .0) (s .loop .r) (s .loop .inv .es) (s .loop .inv .ahead) (at .loop-test .taken))
+loop-less c = omega (arith, c .cell-at3 .ensures, c .before .before .before .before .before .before .before .before .before .before .before .loop-test .taken, line-further _ _ _ _ (c .before .before .before .before .before .before .before .before .before .before .before .before .before .before .before .before .before .pre .0) _ _ (c .before .before .before .before .before .before .before .before .before .before .before .before .loop .inv .ahead) (c .before .before .before .before .before .before .before .before .before .before .before .loop-test .taken))
 
 loop-again : tie.Need-loop-again Inv-loop μ-loop
 loop-again c =
-    let s = c .before .before .before .before .before .before .before .before .before .before .before .before in
-    let at = c .before .before .before .before .before in
-    marks-on _ _ _ _ _ _ _ (s .pre .0) (s .pre .1 .long) (c .before .before .before .before .before .before .before .loop .inv) (c .before .before .before .before .before .before .loop-test .taken) (at .number-at .result) _ (c .before .mark .result) (at .number-at .ensures) refl (c .before .mark .ensures)
+    marks-on _ _ _ _ _ _ _ (c .before .before .before .before .before .before .before .before .before .before .before .before .before .before .before .before .before .pre .0) (c .before .before .before .before .before .before .before .before .before .before .before .before .before .before .before .before .before .pre .1 .long) (c .before .before .before .before .before .before .before .before .before .before .before .before .loop .inv) (c .before .before .before .before .before .before .before .before .before .before .before .loop-test .taken) _ _ _ _ _ _
+    (c .before .before .before .before .before .before .before .before .before .before .form-number .ensures) (c .before .before .before .before .before .before .before .before .before .cell-at .ensures) (c .before .before .before .before .before .before .cell-at2 .ensures) (c .before .before .before .before .mark .ensures) (c .before .before .before .set-cell .ensures) (c .cell-at3 .ensures)
 
 same-length : tie.Need-same-length Inv-loop μ-loop
 same-length c = c .before .loop .inv .size
@@ -126,24 +79,14 @@ fill-hypotheses-spec =
     Inv-loop
     μ-loop
     loop-holds
-    number-at-requires
+    form-number-requires
     cast-number
-    add-line
-    mul-line
-    shared-slice-read-line
-    cast-line
+    cell-at-requires
     shared-slice-read-letter
-    add-old
-    mul-old
-    slice-read-old
+    cell-at-requires-2
     mark-requires
-    add-table
-    mul-table
-    slice-write-table
-    add-r
-    mul-r
-    shared-slice-read-r
-    cast-r
+    set-cell-requires
+    cell-at-requires-3
     loop-less
     loop-again
     same-length

@@ -1,7 +1,7 @@
 -- `listing::list_nodes` meets its contract: the tables hold what is listed so far, and code 5 is that of the nodes still ahead.
 -- Assumes nothing.
 use native.Mathlib.Omega.{arith}
-use Prim.Native.Nat.{ℕ, _+_, _-_, _≤_, _<_}
+use Prim.Native.Nat.{ℕ, _-_, _≤_, _<_}
 use mathlib.Core.Path.{_∙_, subst}
 use Rattle.prefix.proofs.Shown.{count-few, table-long}
 use Rattle.listing.proofs.Nodewise.{NodesTo, nodes-begin, node-ready, nodes-on, nodes-over, nodes-all}
@@ -23,23 +23,12 @@ list-node-requires c κs =
     let at = c .before .before .before .before in
     node-ready _ _ _ _ _ _ _ _ _ _ (s .pre .0) (s .pre .1 .1) (at .loop .inv) (subst (λ (k : ℕ). at .loop .i < k) (s .pre .1 .0) (c .before .before .before .loop-test .taken))
 
-add-line : tie.Need-add-line Inv-loop μ-loop
-add-line c =
+cell-at-requires : tie.Need-cell-at-requires Inv-loop μ-loop
+cell-at-requires c κs =
     let s = c .before .before .before .before .before .before .before .before .before .before .before .before .before .before .before .before .before .before in
-    omega (arith, count-few _ _ (s .pre .0), (subst (λ (k : ℕ). c .before .before .before .before .before .before .before .before .before .before .before .before .loop .i < k) (s .pre .1 .0) (c .before .before .before .before .before .before .before .before .before .before .before .loop-test .taken)))
-
-mul-line : tie.Need-mul-line Inv-loop μ-loop
-mul-line c =
-    let s = c .before .before .before .before .before .before .before .before .before .before .before .before .before .before .before .before .before .before in
-    omega (arith, count-few _ _ (s .pre .0), (subst (λ (k : ℕ). c .before .before .before .before .before .before .before .before .before .before .before .before .loop .i < k) (s .pre .1 .0) (c .before .before .before .before .before .before .before .before .before .before .before .loop-test .taken)))
-
-shared-slice-read-line : tie.Need-shared-slice-read-line Inv-loop μ-loop
-shared-slice-read-line c =
-    let s = c .before .before .before .before .before .before .before .before .before .before .before .before .before .before .before .before .before .before .before in
-    omega (arith, count-few _ _ (s .pre .0), (subst (λ (k : ℕ). c .before .before .before .before .before .before .before .before .before .before .before .before .before .loop .i < k) (s .pre .1 .0) (c .before .before .before .before .before .before .before .before .before .before .before .before .loop-test .taken)), table-long _ _ (s .pre .0))
-
-cast-line : tie.Need-cast-line Inv-loop μ-loop
-cast-line c = omega (arith, c .shared-slice-known3 .given (5120 + c .before .before .before .before .before .before .before .before .before .before .before .before .before .loop .i))
+    let at = c .before .before .before .before .before .before .before .before .before .before .before .before in
+    let below = subst (λ (k : ℕ). at .loop .i < k) (s .pre .1 .0) (c .before .before .before .before .before .before .before .before .before .before .before .loop-test .taken) in
+    ((omega arith, omega (arith, count-few _ _ (s .pre .0))), table-long _ _ (s .pre .0))
 
 same-length : tie.Need-same-length Inv-loop μ-loop
 same-length c = c .before .before .before .before .before .before .before .before .list-node .kept .1 .1 .1 .0 ∙ c .before .before .before .before .before .before .before .before .before .before .before .before .before .loop .inv .cand-size
@@ -54,7 +43,7 @@ returns : tie.Need-returns Inv-loop μ-loop
 returns c =
     let s = c .before .before .before .before .before .before .before .before .before .before .before .before .before .before .before .before .before .before .before in
     let at = c .before .before .before .before .before .before .before .before .before .before .before .before .before in
-    nodes-over _ _ _ _ _ _ _ _ _ _ (s .pre .0) (s .pre .1 .1) (at .loop .inv) (subst (λ (k : ℕ). at .loop .i < k) (s .pre .1 .0) (c .before .before .before .before .before .before .before .before .before .before .before .before .loop-test .taken)) _ _ _ _ (c .before .before .before .before .before .before .before .before .list-node .ensures) (c .before .if1 .taken) _ _ _
+    nodes-over _ _ _ _ _ _ _ _ _ _ (s .pre .0) (s .pre .1 .1) (at .loop .inv) (subst (λ (k : ℕ). at .loop .i < k) (s .pre .1 .0) (c .before .before .before .before .before .before .before .before .before .before .before .before .loop-test .taken)) _ _ _ _ (c .before .before .before .before .before .before .before .before .list-node .ensures) (c .before .if1 .taken) _ (c .cell-at .ensures) _ _ _
 
 add-i : tie.Need-add-i Inv-loop μ-loop
 add-i c =
@@ -93,10 +82,7 @@ list-nodes-spec =
     μ-loop
     loop-holds
     list-node-requires
-    add-line
-    mul-line
-    shared-slice-read-line
-    cast-line
+    cell-at-requires
     same-length
     same-length-2
     same-length-3

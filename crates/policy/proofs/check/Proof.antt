@@ -1,14 +1,13 @@
 -- `policy::check` meets its contract: the three codes are tried in the order of the definition.
 -- Assumes nothing.
 use mathlib.Core.Path.{sym, _∙_}
-use Rattle.infon.specs.Policy.{entriesOf, andThen, code2, code3}
-use Rattle.policy.proofs.Verdicts.{was-passed, check-long, check-lines, check-nodes}
+use Rattle.policy.proofs.Verdicts.{check-long, check-lines, check-nodes}
 use borrow.Author.Needs.{needs}
 use Rattle.policy.proofs.check.Statement.{statement}
 use Rattle.policy.proofs.check.Tie as tie
 
 returns : tie.Need-returns
-returns c = check-long (c .before .before .args .file .now) (andThen (code2 (c .before .before .args .file .now)) (code3 (entriesOf (c .before .before .args .file .now)))) (c .if1 .taken)
+returns c = check-long (c .before .before .args .file .now) (c .if1 .taken)
 
 first-malformed-requires : tie.Need-first-malformed-requires
 first-malformed-requires c κs = search needs
@@ -23,12 +22,12 @@ enum-told : tie.Need-enum-told
 enum-told c = search needs
 
 too-many-requires : tie.Need-too-many-requires
-too-many-requires c κs = (was-passed (code2 (c .before .before .before .before .before .args .file .now)) (sym (c .before .before .first-malformed .ensures) ∙ c .enum-told .given .1))
+too-many-requires c κs = (sym (c .before .before .first-malformed .ensures) ∙ c .enum-told .given .1)
 
 returns-3 : tie.Need-returns-3
 returns-3 c =
     let s = c .before .before .before .before .before .before in
-    c .too-many .ensures ∙ check-nodes (s .args .file .now) (c .before .before .before .before .if1 .left) (was-passed (code2 (s .args .file .now)) (sym (c .before .before .before .first-malformed .ensures) ∙ c .before .enum-told .given .1))
+    c .too-many .ensures ∙ check-nodes (s .args .file .now) (c .before .before .before .before .if1 .left) (sym (c .before .before .before .first-malformed .ensures) ∙ c .before .enum-told .given .1)
 
 pub check-spec : {M : Type 1} → statement M
 check-spec =

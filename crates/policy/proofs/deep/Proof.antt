@@ -15,17 +15,17 @@ abbrev μ-loop : tie.MeasureT-loop
 loop-holds : tie.Need-loop-holds Inv-loop μ-loop
 loop-holds c = (omega arith, deep-begin (c .before .args .nodes .now) (c .before .args .count))
 
-cell-requires : tie.Need-cell-requires Inv-loop μ-loop
-cell-requires c κs = ((omega arith, omega (arith, c .before .before .before .pre .few)), c .before .before .before .pre .long)
+cell-at-requires : tie.Need-cell-at-requires Inv-loop μ-loop
+cell-at-requires c κs = ((omega arith, omega (arith, c .before .before .before .pre .few)), c .before .before .before .pre .long)
 
-cell-requires-2 : tie.Need-cell-requires-2 Inv-loop μ-loop
-cell-requires-2 c κs = ((omega arith, omega (arith, c .before .before .before .before .before .pre .few)), c .before .before .before .before .before .pre .long)
+cell-at-requires-2 : tie.Need-cell-at-requires-2 Inv-loop μ-loop
+cell-at-requires-2 c κs = ((omega arith, omega (arith, c .before .before .before .before .before .pre .few)), c .before .before .before .before .before .pre .long)
 
 returns : tie.Need-returns Inv-loop μ-loop
 returns c =
     let s = c .before .before .before .before .before .before in
     let at = c .before .before .before .before in
-    deep-stop (s .args .nodes .now) (s .args .count) (at .loop .i) (at .loop .inv .1) (omega arith) (omega (arith, c .before .before .cell .ensures)) (c .cell2 .result) (c .cell2 .ensures)
+    deep-stop (s .args .nodes .now) (s .args .count) (at .loop .i) (at .loop .inv .1) (omega arith) (omega (arith, c .before .before .cell-at .ensures)) (c .cell-at2 .result) (c .cell-at2 .ensures)
 
 add-i : tie.Need-add-i Inv-loop μ-loop
 add-i c = omega arith
@@ -37,7 +37,7 @@ loop-again : tie.Need-loop-again Inv-loop μ-loop
 loop-again c =
     let s = c .before .before .before .before .before in
     let at = c .before .before .before in
-    (omega arith, deep-turn (s .args .nodes .now) (s .args .count) (at .loop .i) (at .loop .inv .1) (omega arith) (omega (arith, c .before .cell .ensures)))
+    (omega arith, deep-turn (s .args .nodes .now) (s .args .count) (at .loop .i) (at .loop .inv .1) (omega arith) (omega (arith, c .before .cell-at .ensures)))
 
 returns-2 : tie.Need-returns-2 Inv-loop μ-loop
 returns-2 c = deep-over (c .before .before .before .args .nodes .now) (c .before .before .before .args .count) (c .before .loop .i) (c .before .loop .inv .1) (omega arith)
@@ -49,8 +49,8 @@ deep-spec =
     Inv-loop
     μ-loop
     loop-holds
-    cell-requires
-    cell-requires-2
+    cell-at-requires
+    cell-at-requires-2
     returns
     add-i
     loop-less

@@ -3,64 +3,45 @@
 use borrow.Author.Needs.{needs}
 use native.Mathlib.Omega.{arith}
 use Prim.Native.Nat.{_-_}
-use Rattle.prefix.specs.Places.{placeAt, prefixAt}
-use Rattle.prefix.proofs.Loops.{Climbed, climb-begins, climb-row, climb-turn, climb-over, same-places}
+use mathlib.Core.Path.{_≡_}
+use Rattle.nodes.specs.Nodes.{nodeDepth, nodeCell}
+use Rattle.prefix.specs.Places.{prefixAt}
+use Rattle.prefix.proofs.Loops.{Climbed, climb-begins, climb-row, climb-turn, climb-over, same-prefix}
 use Rattle.prefix.proofs.prefix_of.Statement.{statement}
 use Rattle.prefix.proofs.prefix_of.Tie as tie
 
 abbrev Inv-loop : tie.InvT-loop
-Inv-loop nodes i places₀ count above₀ k₀ places above k = Climbed nodes count (prefixAt nodes i .places) places above k
+Inv-loop nodes i places₀ count above₀ k₀ places above k = Climbed nodes count (prefixAt nodes i .places) places above k × (count ≡ nodeCell nodes nodeDepth i)
 
 abbrev μ-loop : tie.MeasureT-loop
 μ-loop nodes i places₀ count above₀ k₀ places above k = count - k
 
-add-count : tie.Need-add-count Inv-loop μ-loop
-add-count c = search needs
+cell-at-requires : tie.Need-cell-at-requires Inv-loop μ-loop
+cell-at-requires c κs = ((omega arith, c .before .pre .row), c .before .pre .long)
 
-mul-count : tie.Need-mul-count Inv-loop μ-loop
-mul-count c = search needs
-
-shared-slice-read-count : tie.Need-shared-slice-read-count Inv-loop μ-loop
-shared-slice-read-count c = search needs
-
-cast-count : tie.Need-cast-count Inv-loop μ-loop
-cast-count c = search needs
-
-add-above : tie.Need-add-above Inv-loop μ-loop
-add-above c = search needs
-
-mul-above : tie.Need-mul-above Inv-loop μ-loop
-mul-above c = search needs
-
-shared-slice-read-above : tie.Need-shared-slice-read-above Inv-loop μ-loop
-shared-slice-read-above c = search needs
+cell-at-requires-2 : tie.Need-cell-at-requires-2 Inv-loop μ-loop
+cell-at-requires-2 c κs = ((omega arith, c .before .before .pre .row), c .before .before .pre .long)
 
 loop-holds : tie.Need-loop-holds Inv-loop μ-loop
-loop-holds c = climb-begins (c .before .before .args .nodes .now) (c .before .before .args .i) (c .before .before .pre)
+loop-holds c =
+    let start = c .before .before .before in
+    (climb-begins _ _ (start .pre) (c .before .cell-at .ensures) (c .cell-at2 .ensures), c .before .cell-at .ensures)
 
-cast-node : tie.Need-cast-node Inv-loop μ-loop
-cast-node c = omega (arith, climb-row _ _ _ _ _ _ (c .before .loop .inv) (c .loop-test .taken))
-
-mul-said : tie.Need-mul-said Inv-loop μ-loop
-mul-said c = omega (arith, climb-row _ _ _ _ _ _ (c .before .loop .inv) (c .loop-test .taken))
-
-shared-slice-read-said : tie.Need-shared-slice-read-said Inv-loop μ-loop
-shared-slice-read-said c = omega (arith, climb-row _ _ _ _ _ _ (c .before .before .loop .inv) (c .before .loop-test .taken))
+cell-at-requires-3 : tie.Need-cell-at-requires-3 Inv-loop μ-loop
+cell-at-requires-3 c κs =
+    ((omega arith, climb-row _ _ _ _ _ _ (c .before .loop .inv .0) (c .loop-test .taken)), c .before .before .before .before .before .pre .long)
 
 mul-places : tie.Need-mul-places Inv-loop μ-loop
-mul-places c = omega (arith, c .before .before .before .before .before .pre .few)
+mul-places c = omega (arith, c .before .before .before .before .before .before .pre .few, c .before .before .loop .inv .1)
 
 array-set-from-places : tie.Need-array-set-from-places Inv-loop μ-loop
-array-set-from-places c = omega (arith, c .before .before .before .before .before .pre .few)
+array-set-from-places c = omega (arith, c .before .before .before .before .before .before .pre .few, c .before .before .loop .inv .1)
 
-add-above-2 : tie.Need-add-above-2 Inv-loop μ-loop
-add-above-2 c = omega (arith, climb-row _ _ _ _ _ _ (c .before .before .loop .inv) (c .before .loop-test .taken))
-
-mul-above-2 : tie.Need-mul-above-2 Inv-loop μ-loop
-mul-above-2 c = omega (arith, climb-row _ _ _ _ _ _ (c .before .before .loop .inv) (c .before .loop-test .taken))
-
-shared-slice-read-above-2 : tie.Need-shared-slice-read-above-2 Inv-loop μ-loop
-shared-slice-read-above-2 c = omega (arith, climb-row _ _ _ _ _ _ (c .before .before .before .loop .inv) (c .before .before .loop-test .taken))
+cell-at-requires-4 : tie.Need-cell-at-requires-4 Inv-loop μ-loop
+cell-at-requires-4 c κs = (
+  (omega arith, omega (arith, climb-row _ _ _ _ _ _ (c .before .before .loop .inv .0) (c .before .loop-test .taken), c .before .before .before .before .before .before .pre .row)),
+  c .before .before .before .before .before .before .pre .long,
+)
 
 add-k : tie.Need-add-k Inv-loop μ-loop
 add-k c = search needs
@@ -69,14 +50,15 @@ loop-less : tie.Need-loop-less Inv-loop μ-loop
 loop-less c = search needs
 
 loop-again : tie.Need-loop-again Inv-loop μ-loop
-unfolding placeAt
 loop-again c =
-    climb-turn _ _ _ _ _ _ (c .before .before .before .loop .inv) (c .before .before .loop-test .taken)
-    (c .before .before .before .before .before .before .pre .few)
+    let at = c .before .before .before in (
+      climb-turn _ _ _ _ _ _ (at .loop .inv .0) (c .before .before .loop-test .taken)
+          (omega (arith, at .before .before .before .before .pre .few, at .loop .inv .1)) (c .before .cell-at3 .ensures) (c .cell-at4 .ensures),
+      at .loop .inv .1,
+    )
 
 returns : tie.Need-returns Inv-loop μ-loop
-unfolding prefixAt
-returns c = same-places _ (climb-over _ _ _ _ _ _ (c .before .loop .inv) (c .loop-test .left))
+returns c = same-prefix _ _ _ (climb-over _ _ _ _ _ _ (c .before .loop .inv .0) (c .loop-test .left)) (c .before .loop .inv .1)
 
 pub prefix-of-spec : {M : Type 1} → statement M
 prefix-of-spec =
@@ -84,22 +66,13 @@ prefix-of-spec =
     (tie.spec
     Inv-loop
     μ-loop
-    add-count
-    mul-count
-    shared-slice-read-count
-    cast-count
-    add-above
-    mul-above
-    shared-slice-read-above
+    cell-at-requires
+    cell-at-requires-2
     loop-holds
-    cast-node
-    mul-said
-    shared-slice-read-said
+    cell-at-requires-3
     mul-places
     array-set-from-places
-    add-above-2
-    mul-above-2
-    shared-slice-read-above-2
+    cell-at-requires-4
     add-k
     loop-less
     loop-again

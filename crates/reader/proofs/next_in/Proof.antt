@@ -91,14 +91,14 @@ module _ {M : Type 1} (𝓤 : URA M) (H : Heap 𝓤) (A : Atoms 𝓤) (W : Given
     walk typed =
         qed W (raw Before ∷ []) ∵ enter ! C Λ code.function (T′.lowered r ∷ []) _ $
         alloc1 ! (λ l₀. alloc1 ! (λ l₁. alloc1 ! (λ l₂. alloc1 ! (λ l₃. alloc0 ! $ params1 ! $ pass1 ! (init ! 4 refl typed) $ pass0 ! $
-        -- [room for _3; …; room for _2; …; _1; …; room for _0; …; what is had before]
+        -- [the locals, each with its end: for the place, for the journal, the reader, for the result; what is had before]
         assigns ! (of-opd ! (load ! (from ! (fld ! refl (stop !))) (look-in ! 4 (sub ! 0 refl (whole !))))) (from ! (stop !)) (init ! 2 refl (tt, typed .1 .0)) $
         assigns ! (of-opd ! (load ! (from ! (fld ! refl (stop !))) (look-in ! 4 (sub ! 1 refl (whole !))))) (from ! (stop !)) (init ! 0 refl (tt, typed .1 .1 .0)) $
         move ! (8 ∷ []) $ use1 W (raw (RecordAt 𝓤 H A mem run .pre asks) ⊛ ‵ (readerOwns κ r)) called $ split ! $
         calls-at ! framed (RecordAt 𝓤 H A mem run) known asks (and-then ! (load ! (from ! (stop !)) (look ! 4 refl)) (and-then ! (load ! (from ! (stop !)) (look ! 2 refl)) (no-more !))) (λ out.
         use1 W (later (some (λ (d : Decoded). ((‵ (flft κ share) ⊛ ‵ ftrue) ⊛ ‵ (D.the-row .own d (out ∷ []))) ⊛ raw (ensured 𝓤 H A record-at.ended (record-at.clauses 𝓤 H A mem run) (κ, tt) (r .journal, (r .at, tt)) tt d)))) (id⊢ 𝓤 _) $
         await ! tt $ pick ! (λ d. split ! $ move ! (1 ∷ []) $ use1 W (raw (fact 𝓤 (d ≡ found (r .journal) (r .at)))) (told d) $ heard ! (d ≡ found (r .journal) (r .at)) (λ e. split ! $ move ! (1 ∷ []) $
-        -- [the record; the token; the reader; _3; …; _2; …; _1; …; room for _0; …]
+        -- [the record; the token; what the reader owns; the locals as before]
         peeks ! D.the-row (Is D.the-row) (shows 𝓤 H A D.the-row) d (out ∷ []) (λ is.
         land ! (from ! (stop !)) (init ! 9 refl (EL.lawful D.the-type D′.the-laws 𝓤 H A W tt .typed d _ is .0)) $
         returns ! (look ! 9 refl) $ forget ! 3 refl $ forget ! 5 refl $ forget ! 7 refl $ forget ! 9 refl $

@@ -70,7 +70,7 @@ module _ {M : Type 1} (𝓤 : URA M) (H : Heap 𝓤) (A : Atoms 𝓤) (W : Given
         let typed = shr-slice-lawful 𝓤 H A W (named 0) κ u8 .typed journal (journalVal journal ∷ []) is .0 in
         qed W (raw Before ∷ []) ∵ enter ! C Λ code.function (journalVal journal ∷ vint w64 at ∷ []) _ $
         alloc1 ! (λ l₀. alloc1 ! (λ l₁. alloc1 ! (λ l₂. alloc0 ! $ params1 ! $ pass1 ! (init ! 2 refl typed) $ pass1 ! (init ! 0 refl (tt, record { fits = fits })) $ pass0 ! $
-        -- [_2; …; _1; …; room for _0; …; what is had before]
+        -- [the locals, each with its end: the place, the journal, for the result; what is had before]
         assigns ! (agg ! (and-then ! (load ! (from ! (stop !)) (look ! 2 refl)) (and-then ! (load ! (from ! (stop !)) (look ! 0 refl)) (no-more !)))) (from ! (stop !)) (init ! 4 refl (tt, (typed .1, (record { fits = fits }, tt)))) $
         returns ! (look ! 4 refl) $ forget ! 0 refl $ forget ! 2 refl $ forget ! 4 refl $
         move ! (4 ∷ 5 ∷ []) $ free1 ! $ move ! (2 ∷ 3 ∷ []) $ free1 ! $ free1 ! $ free0 ! $ by ! ends)))

@@ -3,8 +3,8 @@
 use mathlib.Core.Path.{refl, sym, _∙_}
 use native.Mathlib.Omega.{arith}
 use borrow.Author.Needs.{needs}
-use Rattle.table.specs.Tests.{givesIn, premisesMarked}
-use Rattle.table.proofs.Given.{marked-below}
+use Rattle.formulas.specs.Tests.{givesIn, premisesMarked}
+use Rattle.formulas.proofs.Given.{marked-below}
 use Rattle.rules.proofs.Led.{led, unled, equal-read, second-below}
 use Rattle.rules.proofs.leads_to.Statement.{statement}
 use Rattle.rules.proofs.leads_to.Tie as tie

@@ -3,7 +3,7 @@
 use mathlib.Core.Path.{sym, _∙_}
 use borrow.Author.Needs.{needs}
 use borrow.Author.Tests.{eq-eqb, ne-eqb}
-use Rattle.table.specs.Tests.{givesIn}
+use Rattle.formulas.specs.Tests.{givesIn}
 use Rattle.rules.proofs.Led.{first-passed, first-failed, equal-reads, contained}
 use Rattle.rules.proofs.weakens.Statement.{statement}
 use Rattle.rules.proofs.weakens.Tie as tie

@@ -6,8 +6,8 @@ use mathlib.Core.Logic.{⊎-elim}
 use mathlib.Core.Bool.{false}
 use native.Mathlib.Omega.{arith}
 use Rattle.infon.specs.declared.Way.the-variants.{Weaken}
-use Rattle.table.specs.Table.{cell}
-use Rattle.table.specs.Tests.{leadsTo}
+use Rattle.formulas.specs.Table.{cell}
+use Rattle.formulas.specs.Tests.{leadsTo}
 use Rattle.ways.specs.Search.{leastPremise}
 use Rattle.ways.proofs.Leads.{weaken-bottom, Walked, walk-found, walk-over, chain-begins, chain-goes-on, weaken-unmarked, weaken-stays, weaken-passes}
 use Rattle.ways.proofs.stronger.Statement.{statement}

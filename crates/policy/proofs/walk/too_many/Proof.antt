@@ -7,7 +7,6 @@ use lib.ListN.{length}
 use Rattle.nodes.specs.Nodes.{after, countNodes, nodesOf}
 use Rattle.nodes.proofs.Spelled.{Chain}
 use Rattle.infon.specs.Policy.{mostNodes}
-use Rattle.policy.specs.Codes.{verdictOf}
 use Rattle.policy.specs.Walking.{behindOwn}
 use Rattle.policy.proofs.Spots.{walk-begin, walk-here, walk-within, walk-on, walk-later, many-nodes, few-nodes}
 use native.Mathlib.Omega.{arith}
@@ -24,8 +23,8 @@ loop-holds : tie.Need-loop-holds Inv-loop μ-loop
 loop-holds c = (omega arith, (omega arith, walk-begin (c .before .args .file .now) (c .before .pre)))
 
 returns : tie.Need-returns Inv-loop μ-loop
-unfolding verdictOf mostNodes
-returns c = sym (ap verdictOf (many-nodes (c .before .before .before .before .args .file .now) (c .before .before .loop .at) (c .before .before .loop .line) (c .before .before .loop .count) (c .before .before .loop .inv .1 .0) (c .before .before .loop .inv .1 .1) (omega arith) (c .if1 .taken)))
+unfolding mostNodes
+returns c = sym (many-nodes (c .before .before .before .before .args .file .now) (c .before .before .loop .at) (c .before .before .loop .line) (c .before .before .loop .count) (c .before .before .loop .inv .1 .0) (c .before .before .loop .inv .1 .1) (omega arith) (c .if1 .taken))
 
 node-at-requires : tie.Need-node-at-requires Inv-loop μ-loop
 node-at-requires c κs = omega arith
@@ -54,8 +53,8 @@ loop-again c =
     (omega arith, (omega arith, walk-on (at .args .file .now) (s .loop .at) (s .loop .line) (s .loop .count) (s .loop .inv .1 .0) (s .loop .inv .1 .1) (omega arith) (c .before .own-end .result) (c .before .own-end .ensures ∙ ap (behindOwn (s .loop .at)) (c .before .before .node-at .ensures)) (c .next-spot .result) (c .next-spot .ensures)))
 
 returns-2 : tie.Need-returns-2 Inv-loop μ-loop
-unfolding verdictOf mostNodes
-returns-2 c = sym (ap verdictOf (few-nodes (c .before .before .before .args .file .now) (c .before .loop .at) (c .before .loop .line) (c .before .loop .count) (c .before .loop .inv .1 .0) (c .before .loop .inv .1 .1) (omega arith) (omega arith)))
+unfolding mostNodes
+returns-2 c = sym (few-nodes (c .before .before .before .args .file .now) (c .before .loop .at) (c .before .loop .line) (c .before .loop .count) (c .before .loop .inv .1 .0) (c .before .loop .inv .1 .1) (omega arith) (omega arith))
 
 pub too-many-spec : {M : Type 1} → statement M
 too-many-spec =

@@ -1,0 +1,5 @@
+pub mod Answering
+pub mod Outcomes
+pub mod Working
+pub mod Proceeding
+pub mod OneAnswer
