@@ -29,10 +29,10 @@ use Rattle.ways.proofs.Firsts.{all-fail}
 use Rattle.ways.proofs.Rulewise.{answer-missing}
 use Rattle.ways.proofs.Onward.{nextFrom, onward-begins, onward-found, onward-goes-on, onward-over}
 use Rattle.frontier.specs.declared.Next.the-variants.{Due, Finished}
-use Rattle.frontier.specs.Members.{isIn, withoutMember, LeastIn}
+use Rattle.members.specs.Members.{isIn, withoutMember, LeastIn}
 use Rattle.frontier.specs.Touched.{Covers, CoversBut, wantedAll, touching, takingAll}
 use Rattle.frontier.specs.Found.{nextOf, Found}
-use Rattle.frontier.proofs.Membership.{without-clears, without-keeps}
+use Rattle.members.proofs.Membership.{without-clears, without-keeps}
 use Rattle.frontier.proofs.Wanting.{all-keeps, all-has, without-long}
 use Rattle.frontier.proofs.Premises.{by, Goods, goods, good-of, leads-of, by-weaken, by-left, by-right, by-both-first, by-both-second, by-apply-first, by-apply-second, by-attach, in-taking, hypothesis-taken, given-taken}
 

@@ -1,5 +1,3 @@
-pub mod Bitwise
-pub mod Membership
 pub mod Wanting
 pub mod Chained
 pub mod Premises

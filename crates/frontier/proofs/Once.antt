@@ -13,9 +13,9 @@ use lib.Dec.{ltb, eqb}
 use borrow.Author.Tests.{eqb-true, eqb-false, ltb-true, ltb-false}
 use Rattle.infon.proofs.Rows.{decided}
 use Rattle.frontier.specs.declared.Next.{Next}
-use Rattle.frontier.specs.Members.{hasBit, isIn, LeastIn}
+use Rattle.members.specs.Members.{hasBit, isIn, LeastIn}
 use Rattle.frontier.specs.Found.{stopOf, Found}
-use Rattle.frontier.proofs.Bitwise.{power-half, power-even}
+use Rattle.members.proofs.Bitwise.{power-half, power-even}
 
 same-low : (a b : ℕ) → a < 2 → b < 2 → eqb a 1 ≡ eqb b 1 → a ≡ b
 same-low a b lowA lowB same =

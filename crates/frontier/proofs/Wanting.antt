@@ -14,9 +14,9 @@ use Rattle.infon.proofs.Rows.{decided}
 use Rattle.formulas.specs.Table.{cell}
 use Rattle.formulas.specs.Tests.{isMarked, goodIn}
 use Rattle.formulas.proofs.Given.{good-below}
-use Rattle.frontier.specs.Members.{isIn, withNumber, withoutMember}
+use Rattle.members.specs.Members.{isIn, withNumber, withoutMember}
 use Rattle.frontier.specs.Touched.{wanted, wantedAll, partsBy, wholeBy, meeting, along, touching, takingIn}
-use Rattle.frontier.proofs.Membership.{with-has, with-keeps}
+use Rattle.members.proofs.Membership.{with-has, with-keeps}
 
 pub with-long : (cover : List ℕ) (i : ℕ) → length (withNumber cover i) ≡ length cover
 unfolding withNumber

@@ -9,7 +9,7 @@ use Rattle.infon.specs.declared.Record.{Record}
 use Rattle.ways.specs.Search.{nextIn}
 use Rattle.frontier.specs.declared.Next.{Next}
 use Rattle.frontier.specs.declared.Next.the-variants.{Due, Finished}
-use Rattle.frontier.specs.Members.{isIn}
+use Rattle.members.specs.Members.{isIn}
 use Rattle.frontier.specs.Touched.{CoversBut}
 
 -- the answer to "The next record, if any": `Finished` where there is none

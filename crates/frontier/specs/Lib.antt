@@ -1,3 +1,2 @@
 pub mod Found
-pub mod Members
 pub mod Touched

@@ -8,7 +8,7 @@ use Rattle.infon.specs.declared.Way.the-variants.{Hypothesis, Given, Weaken, Le
 use Rattle.infon.specs.declared.Record.{Record}
 use Rattle.formulas.specs.Table.{cell}
 use Rattle.formulas.specs.Tests.{leftAt, rightAt, bottomAt, isMarked, goodIn}
-use Rattle.frontier.specs.Members.{isIn, withNumber}
+use Rattle.members.specs.Members.{isIn, withNumber}
 
 -- The set holds every formula that is not marked and has a way now. What else it holds costs time and never truth.
 abbrev pub Covers : List ℕ → ℕ → List ℕ → List ℕ → Type 0

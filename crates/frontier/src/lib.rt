@@ -1,19 +1,21 @@
 // A set of formulas that covers all those that are not recorded and have a way now, so that the next record is looked for in it
-// alone: how it is filled, and how it is widened as a formula is recorded. Bit i % 64 of word i / 64 stands for number i.
+// alone: how it is filled, and how it is widened as a formula is recorded.
 use formulas::BOTTOM;
 use formulas::LEFT;
 use formulas::RIGHT;
 use infon::Record;
 use infon::Way;
 use links::NEXTS;
+use members::insert;
+use members::least;
+use members::remove;
 use ways::Least;
 ghost use mathlib.Core.Path.{_≡_};
-ghost use mathlib.Core.Bool.{true};
 ghost use Prim.Native.Nat.{_-_, _*_, _≤_, _<_};
 ghost use lib.ListN.{length};
 ghost use Rattle.formulas.specs.Table.{tableRows, tableCells};
 ghost use Rattle.links.specs.Chains.{chainCells, ChainOf, Searchable};
-ghost use Rattle.frontier.specs.Members.{coverWords, isIn, withNumber, withoutMember, LeastIn};
+ghost use Rattle.members.specs.Members.{coverWords};
 ghost use Rattle.frontier.specs.Found.{Found};
 ghost use Rattle.frontier.specs.Touched.{Covers, wanted, wantedAll, partsBy, wholeBy, meeting, along, touching, takingIn, takingAll};
 ghost use Rattle.formulas.specs.Tests.{leftAt, hypothesisAt};
@@ -24,51 +26,8 @@ pub enum Next {
     Finished,
 }
 
-// The numbers of a set, and its words.
-const NUMBERS: usize = formulas::ROWS;
-
-pub const WORDS: usize = 64;
-
 // The chains of a column begin so far after those of the column before it.
 const CHAINS: usize = links::RIGHTS - links::LEFTS;
-
-// Puts a number into the set.
-fn insert(cover: &mut [u64], i: usize)
-    requires { ⌜ (i < tableRows) × (coverWords ≤ length (now cover)) ⌝ }
-    ensures { λ _. ⌜ now (cover .exit) ≡ withNumber (now (cover .entry)) i ⌝ }
-{
-    let at = i / 64;
-    let bit = 1u64 << (i % 64);
-    let word = cover[at];
-    cover[at] = word | bit;
-}
-
-// Takes a member out of the set.
-fn remove(cover: &mut [u64], i: usize)
-    requires { ⌜ (i < tableRows) × (coverWords ≤ length (now cover)) × (isIn (now cover) i ≡ true) ⌝ }
-    ensures { λ _. ⌜ now (cover .exit) ≡ withoutMember (now (cover .entry)) i ⌝ }
-{
-    let at = i / 64;
-    let bit = 1u64 << (i % 64);
-    let word = cover[at];
-    cover[at] = word ^ bit;
-}
-
-// The least member, 4,096 where there is none.
-fn least(cover: &[u64]) -> usize
-    requires { ⌜ coverWords ≤ length (now cover) ⌝ }
-    ensures { λ r. ⌜ LeastIn (now (cover .entry)) r ⌝ }
-{
-    let mut at = 0;
-    while at < WORDS {
-        let word = cover[at];
-        if word != 0 {
-            return at * 64 + u64::trailing_zeros(word) as usize;
-        }
-        at += 1;
-    }
-    NUMBERS
-}
 
 // Puts the formula of a record into the set if the record is good now.
 fn want(table: &[u16], n: usize, marks: &[u8], cover: &mut [u64], r: Record)

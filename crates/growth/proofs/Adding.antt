@@ -20,7 +20,7 @@ use Rattle.ways.specs.Search.{nextIn}
 use Rattle.frontier.specs.declared.Next.{Next}
 use Rattle.frontier.specs.declared.Next.the-variants.{Due, Finished}
 use Rattle.frontier.specs.Found.{nextOf, Found}
-use Rattle.frontier.specs.Members.{withNumber}
+use Rattle.members.specs.Members.{withNumber}
 use Rattle.frontier.specs.Touched.{wanted, wantedAll, touching}
 use Rattle.frontier.proofs.Wanting.{all-long}
 use Rattle.frontier.proofs.Once.{Words, found-once}

@@ -13,7 +13,7 @@ use Rattle.ways.specs.Search.{nextIn}
 use Rattle.frontier.specs.declared.Next.{Next}
 use Rattle.frontier.specs.declared.Next.the-variants.{Due, Finished}
 use Rattle.frontier.specs.Touched.{Covers, wantedAll, touching}
-use Rattle.frontier.specs.Members.{coverWords}
+use Rattle.members.specs.Members.{coverWords}
 use Rattle.frontier.specs.Found.{Found}
 use Rattle.growth.specs.declared.Growth.{Growth}
 

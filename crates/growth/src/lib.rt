@@ -1,7 +1,7 @@
 // The growth of the journal: records are added right after the kept part, each the next one.
 use frontier::Next;
-use frontier::WORDS;
 use infon::RECORD_BYTES;
+use members::WORDS;
 ghost use Rattle.growth.specs.Grown.{Addable, Adds, Roomy, Grows};
 
 // How many records were added, and whether no record is next any more.

@@ -1,4 +1,3 @@
-pub mod Spots
 pub mod Verdicts
 pub mod Cells
 pub mod Stages

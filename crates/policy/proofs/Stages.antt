@@ -17,10 +17,10 @@ use Rattle.nodes.proofs.Codes.{code3-few}
 use Rattle.spelling.specs.declared.Parsed.{Parsed}
 use Rattle.spelling.specs.declared.Parsed.the-variants.{True as aTrue, Name as aName, And as anAnd, Implies as anImplies, Quoted as aQuoted, Bad}
 use Rattle.spelling.specs.Parsing.{parsedAt}
-use Rattle.policy.specs.declared.walk.Spot.{Spot}
-use Rattle.policy.specs.Walking.{behindOwn, nextSpot}
+use Rattle.walk.specs.declared.Spot.{Spot}
+use Rattle.walk.specs.Walking.{behindOwn, nextSpot}
 use Rattle.policy.specs.Filling.{kindNumber, spotted, firstCell, RowsAre, Begun}
-use Rattle.policy.proofs.Spots.{isSaid, parsedOf, walk-begin, walk-over, walk-here, walk-place, walk-line, walk-parsed, walk-end, walk-forward, walk-within, walk-on, walk-later}
+use Rattle.walk.proofs.Spots.{isSaid, parsedOf, walk-begin, walk-over, walk-here, walk-place, walk-line, walk-parsed, walk-end, walk-forward, walk-within, walk-on, walk-later}
 use Rattle.policy.proofs.Cells.{none-held, spotted-held, spotted-size}
 
 -- Kinds.

@@ -1,4 +1,3 @@
 pub mod Codes
-pub mod Walking
 pub mod Filling
 pub mod Tables

@@ -2,8 +2,6 @@
 // from the last node to the first, then what stands above from the first to the last.
 use super::table::put_above;
 use super::table::put_spot;
-use super::walk::next_spot;
-use super::walk::own_end;
 use nodes::ABOVE;
 use nodes::AND;
 use nodes::DEPTH;
@@ -17,6 +15,8 @@ use nodes::TRUE;
 use nodes::cell_at;
 use nodes::set_cell;
 use spelling::Parsed;
+use walk::next_spot;
+use walk::own_end;
 ghost use mathlib.Core.Path.{_≡_};
 ghost use Prim.Native.Nat.{_≤_, _<_};
 ghost use lib.ListN.{length};

@@ -1,7 +1,6 @@
 // Codes 1 to 4 and the table of nodes: the first three over the bytes of the file, the fourth over the table.
 mod filling;
 mod table;
-mod walk;
 
 use filling::fill_above;
 use filling::fill_ends;

@@ -10,7 +10,8 @@ use Rattle.infon.specs.declared.Report.{Report}
 use Rattle.infon.specs.Journal.{recordBytes}
 use Rattle.writing.proofs.Placing.{prints-one}
 use Rattle.settling.specs.declared.Settlement.{Settlement}
-use Rattle.settling.specs.Settled.{droppedOf, Settles}
+use Rattle.remains.specs.Dropped.{droppedOf}
+use Rattle.settling.specs.Settled.{Settles}
 
 -- of `settle`
 pub settle-once : {file journal : List ℕ} {used limit : ℕ} {asked : Bool} {text : List ℕ} {one two : Settlement} {after₁ after₂ printed₁ printed₂ : List ℕ}

@@ -18,7 +18,8 @@ use Rattle.printing.specs.Printed.{printedRun}
 use Rattle.printing.specs.Turned.{Printable}
 use Rattle.working.specs.Working.{left}
 use Rattle.settling.specs.declared.Settlement.{Settlement}
-use Rattle.settling.specs.Settled.{textBytes, answerRoom, settledRun, textOf, settledText, restOf, isBegun, droppedOf, Settles}
+use Rattle.remains.specs.Dropped.{restOf, isBegun, droppedOf}
+use Rattle.settling.specs.Settled.{textBytes, answerRoom, settledRun, textOf, settledText, Settles}
 use Rattle.settling.specs.Telling.{settlementOf, Shows}
 use Rattle.settling.proofs.Telling.{room-few}
 

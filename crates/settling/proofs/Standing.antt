@@ -13,7 +13,8 @@ use borrow.Author.Tests.{eq-eqb, eqb-true, ltb-false}
 use Rattle.infon.specs.Journal.{recordBytes}
 use Rattle.infon.proofs.Demands.{keptPart, addedPart, recordsLeft, keeps, kept-stay, uses}
 use Rattle.settling.specs.declared.Settlement.{Settlement}
-use Rattle.settling.specs.Settled.{settledRun, restOf, isBegun, droppedBy, droppedOf, Settles}
+use Rattle.remains.specs.Dropped.{restOf, isBegun, droppedBy, droppedOf}
+use Rattle.settling.specs.Settled.{settledRun, Settles}
 use Rattle.settling.proofs.Settling.{rowFor, accepted-run}
 
 -- how the three numbers come about

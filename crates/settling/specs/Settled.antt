@@ -1,15 +1,16 @@
 -- What a call makes of a policy file and a journal, before anything is written: the run, the text to print of it, and what of the
 -- journal was not kept.
-use Prim.Native.Nat.{ℕ, _*_, _/_, _%_}
+use Prim.Native.Nat.{ℕ, _/_}
 use mathlib.Core.Path.{_≡_}
-use mathlib.Core.Bool.{Bool, cond, _&&_}
+use mathlib.Core.Bool.{Bool, cond}
 use mathlib.Core.List.{List, []}
-use lib.ListN.{length, take, drop, getD, replicate}
-use lib.Dec.{eqb, ltb, leb}
-use Rattle.infon.specs.Journal.{recordBytes, markHigh, markLow}
+use lib.ListN.{length, replicate}
+use lib.Dec.{eqb, ltb}
+use Rattle.infon.specs.Journal.{recordBytes}
 use Rattle.infon.specs.Run.{Outcome, run}
 use Rattle.writing.specs.Placed.{Prints}
 use Rattle.printing.specs.Printed.{printedRun}
+use Rattle.remains.specs.Dropped.{droppedOf}
 use Rattle.settling.specs.declared.Settlement.{Settlement}
 
 -- a text of so many bytes has room for what is printed of any file: 32 for each of 1,024 answers, and the file's questions
@@ -32,24 +33,6 @@ unfoldable pub settledText : List ℕ → List ℕ → ℕ → ℕ → Bool → 
 settledText file journal used limit asked text =
     let outcome = settledRun file journal used limit text in
     textOf asked file (outcome .report .code) (outcome .report .place) (outcome .answers) text
-
--- the used bytes behind the last whole record
-unfoldable pub restOf : List ℕ → ℕ → List ℕ
-restOf journal used = drop (recordBytes * (used / recordBytes)) (take used journal)
-
--- they begin as a record does, as far as they go: the first two are the mark, and the third is a rule from 1 to 8
-unfoldable pub isBegun : List ℕ → Bool
-isBegun rest =
-    eqb (getD rest 0 markHigh) markHigh && eqb (getD rest 1 markLow) markLow && (leb 1 (getD rest 2 1) && leb (getD rest 2 1) 8)
-
--- What is not kept of so many used bytes, where so many records are kept and the bytes behind the last whole record begin as a record
--- does, or do not: 0 nothing, 1 a last record that was cut off and nothing else, 2 more than that.
-unfoldable pub droppedBy : ℕ → ℕ → Bool → ℕ
-droppedBy used kept begun = cond (ltb kept (used / recordBytes)) 2 (cond (eqb (used % recordBytes) 0) 0 (cond begun 1 2))
-
--- what a call that keeps so many records does not keep of the journal's used bytes
-unfoldable pub droppedOf : List ℕ → ℕ → ℕ → ℕ
-droppedOf journal used kept = droppedBy used kept (isBegun (restOf journal used))
 
 -- The report and the journal's buffer are the run's; the text is what is printed of it; of a call that is not refused it is told how
 -- many whole records the journal had, and what was not kept.

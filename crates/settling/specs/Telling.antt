@@ -10,7 +10,7 @@ use Rattle.infon.specs.declared.Verdict.the-variants.{Passed}
 use Rattle.infon.specs.Policy.{mostBytes, code2}
 use Rattle.infon.specs.Journal.{recordBytes}
 use Rattle.settling.specs.declared.Settlement.{Settlement}
-use Rattle.settling.specs.Settled.{droppedBy}
+use Rattle.remains.specs.Dropped.{droppedBy}
 
 -- what a call came to, by the report, the used length before it, whether the bytes behind the last whole record began as a record
 -- does, and the length of the text

@@ -2,12 +2,11 @@
 // and what of the journal was not kept.
 use infon::RECORD_BYTES;
 use infon::Report;
-use reader::MARK_HIGH;
-use reader::MARK_LOW;
+use remains::dropped_by;
+use remains::is_begun;
 ghost use mathlib.Core.Path.{_≡_};
-ghost use lib.ListN.{take, getD};
 ghost use Rattle.writing.specs.Placed.{Prints};
-ghost use Rattle.settling.specs.Settled.{answerRoom, textOf, restOf, isBegun, droppedBy, Settles};
+ghost use Rattle.settling.specs.Settled.{answerRoom, textOf, Settles};
 ghost use Rattle.settling.specs.Telling.{settlementOf, Shows};
 
 // What a call came to: the run's report, how many whole records the journal had, what of it was not kept, and the length of the text.
@@ -27,50 +26,6 @@ pub const JOURNAL_BYTES: usize = 36864;
 pub const EVERY_RECORD: usize = 4096;
 
 const MOST_ANSWERS: usize = 1024;
-
-// A byte of the journal's used bytes, or another where there is none.
-fn byte_or(journal: &[u8], used: usize, i: usize, other: u8) -> u8
-    ensures { λ r. ⌜ r ≡ getD (take used (now (journal .entry))) i other ⌝ }
-{
-    if used <= i {
-        return other;
-    }
-    if journal.len() <= i {
-        return other;
-    }
-    journal[i]
-}
-
-// The used bytes behind the last whole record begin as a record does, as far as they go.
-fn is_begun(journal: &[u8], used: usize) -> bool
-    ensures { λ r. ⌜ r ≡ isBegun (restOf (now (journal .entry)) used) ⌝ }
-{
-    let whole = RECORD_BYTES * (used / RECORD_BYTES);
-    if byte_or(journal, used, whole, MARK_HIGH) != MARK_HIGH {
-        return false;
-    }
-    if byte_or(journal, used, whole + 1, MARK_LOW) != MARK_LOW {
-        return false;
-    }
-    let rule = byte_or(journal, used, whole + 2, 1);
-    1 <= rule && rule <= 8
-}
-
-// What is not kept of the used bytes where so many records are: 0 nothing, 1 a last record that was cut off, 2 more than that.
-fn dropped_by(used: usize, kept: usize, begun: bool) -> usize
-    ensures { λ r. ⌜ r ≡ droppedBy used kept begun ⌝ }
-{
-    if kept < used / RECORD_BYTES {
-        return 2;
-    }
-    if used % RECORD_BYTES == 0 {
-        return 0;
-    }
-    if begun {
-        return 1;
-    }
-    2
-}
 
 // A refusal tells nothing of the journal.
 fn sum_up(report: Report, used: usize, begun: bool, length: usize) -> Settlement
