@@ -22,7 +22,7 @@ use Rattle.infon.specs.Run.{fileCodes, fileVerdict, code6, code7, code8,
 use Rattle.infon.specs.Board.{nodesIn, isShallow, FileTooLong, file-too-long, LineNotWellFormed, line-not-well-formed, TooManyNodes, too-many-nodes, TooDeep, too-deep, TooManyListed, too-many-listed, JournalTooShort, journal-too-short, UsedTooLong, used-too-long, AnswersTooShort, answers-too-short, NoRoom, no-room, fileRow, runRow}
 use Rattle.infon.proofs.Rows.{decided}
 use Rattle.infon.proofs.Listed.{enlist-begins, listFrom-append}
-use Rattle.infon.proofs.Tried.{when-true, when-false, when-passed, andThen-passed, tried-append, scanned, scanned-first, first-scanned, gone, counted, counted-over, over-counted, Says, Speaks, silent, speaks, speaks-append, given-or-none, none-given, first-numbered, refuses, passes}
+use Rattle.infon.proofs.Tried.{when-true, when-false, when-passed, andThen-passed, tried-append, scanned, FirstBad, scanned-says, gone, counted, FirstOver, counted-says, Says, Speaks, silent, speaks, speaks-append, given-or-none, none-given, first-numbered, refuses, passes}
 
 -- ---- The verdicts of the codes, as searches through a row
 
@@ -98,73 +98,79 @@ list-more : (before : List Entry) (e : Entry) → listOf (before ++ (e ∷ [])) 
 unfolding listOf listFrom
 list-more before e = listFrom-append [] before (e ∷ [])
 
--- code 3 and code 5 in the rules' own words
-code3-over : (before after : List Entry) (e : Entry) → nodesIn before ≤ mostNodes → mostNodes < nodesIn (before ++ (e ∷ []))
-    → code3From 0 (before ++ (e ∷ after)) ≡ Refused 3 (e .start)
-unfolding addNodes
-code3-over before after e within over =
-    let passed-by = gone-nodes 0 before in
-    let sum = nodes-more before e in
-    code3-counted 0 (before ++ (e ∷ after))
-    ∙ counted-over addNodes (λ (n : ℕ). n) addNodes-grows mostNodes 3 (λ (f : Entry). f .start) 0 before e after (omega arith) (omega arith)
+-- ---- The rules, by what the searches find first
 
-over-code3 : (entries : List Entry)
-    → (code3From 0 entries ≡ Passed)
-    ⊎ ((at : ℕ) × ((code3From 0 entries ≡ Refused 3 at)
-    × ((before : List Entry) × ((after : List Entry) × ((e : Entry) × ((entries ≡ before ++ (e ∷ after)) × ((nodesIn before ≤ mostNodes)
-    × ((mostNodes < nodesIn (before ++ (e ∷ []))) × (at ≡ e .start)))))))))
-unfolding addNodes
-over-code3 entries =
-    ⊎-elim (λ p. inl (code3-counted 0 entries ∙ p))
-    (λ found.
-    let f = found .1 .1 in
-    let passed-by = gone-nodes 0 (f .before) in
-    let sum = nodes-more (f .before) (f .last) in
-    let within = f .within in
-    let over = f .over in
-    inr (
-      found .0,
-      (
-        code3-counted 0 entries ∙ found .1 .0,
-        (f .before, (f .behind, (f .last, (f .row, (omega arith, (omega arith, f .here)))))),
-      ),
-    ))
-    (over-counted addNodes (λ (n : ℕ). n) addNodes-grows mostNodes 3 (λ (f : Entry). f .start) 0 entries (omega arith))
+module _ (file : List ℕ) where
+  abbrev FirstDeformed : ℕ → Type 0
+  FirstDeformed = FirstBad isWellFormed 2 (λ (l : Line). l .start) (linesOf file)
 
-code5-over : (before after : List Entry) (e : Entry) → length (listOf before) ≤ mostListed
-    → mostListed < length (listOf (before ++ (e ∷ []))) → code5From [] (before ++ (e ∷ after)) ≡ Refused 5 (e .start)
-unfolding listOf addBases
-code5-over before after e within over =
-    let passed-by = ap length (gone-bases [] before) in
-    let more = ap length (list-more before e) in
-    code5-counted [] (before ++ (e ∷ after))
-    ∙ counted-over addBases length addBases-grows mostListed 5 (λ (f : Entry). f .start) [] before e after (omega arith)
-    (subst (λ (fs : List Formula). mostListed < length (enlist fs (weakenedBases [] (formulaIn (e .sentence))))) (sym (gone-bases [] before)) (omega arith))
+  deformed-rule : (at : ℕ) → FirstDeformed at → LineNotWellFormed file at
+  deformed-rule at f =
+      subst (LineNotWellFormed file) (sym (f .here)) (line-not-well-formed (f .before) (f .behind) (f .bad) (f .row) (f .all-good) (f .is-bad))
 
-pub over-code5 : (entries : List Entry)
-    → (code5From [] entries ≡ Passed)
-    ⊎ ((at : ℕ) × ((code5From [] entries ≡ Refused 5 at)
-    × ((before : List Entry) × ((after : List Entry) × ((e : Entry) × ((entries ≡ before ++ (e ∷ after)) × ((length (listOf before) ≤ mostListed)
-    × ((mostListed < length (listOf (before ++ (e ∷ [])))) × (at ≡ e .start)))))))))
-unfolding listOf addBases
-over-code5 entries =
-    ⊎-elim (λ p. inl (code5-counted [] entries ∙ p))
-    (λ found.
-    let f = found .1 .1 in
-    let passed-by = ap length (gone-bases [] (f .before)) in
-    let within = f .within in
-    let over =
-    subst (λ (fs : List Formula). mostListed < length (enlist fs (weakenedBases [] (formulaIn (f .last .sentence)))))
-    (gone-bases [] (f .before)) (f .over) in
-    let more = ap length (list-more (f .before) (f .last)) in
-    inr (
-      found .0,
-      (
-        code5-counted [] entries ∙ found .1 .0,
-        (f .before, (f .behind, (f .last, (f .row, (omega arith, (omega arith, f .here)))))),
-      ),
-    ))
-    (over-counted addBases length addBases-grows mostListed 5 (λ (f : Entry). f .start) [] entries (omega arith))
+  rule-deformed : (at : ℕ) → LineNotWellFormed file at → FirstDeformed at
+  rule-deformed at (line-not-well-formed before after line row calm bad) =
+      record { before = before; bad = line; behind = after; row = row; all-good = calm; is-bad = bad; here = refl }
+
+  abbrev FirstFull : ℕ → Type 0
+  FirstFull = FirstOver addNodes (λ (n : ℕ). n) addNodes-grows mostNodes 3 (λ (e : Entry). e .start) 0 (entriesOf file)
+
+  full-rule : (at : ℕ) → FirstFull at → TooManyNodes file at
+  unfolding addNodes
+  full-rule at f =
+      let passed-by = gone-nodes 0 (f .before) in
+      let sum = nodes-more (f .before) (f .last) in
+      let within = f .within in
+      let over = f .over in
+      subst (TooManyNodes file) (sym (f .here)) (too-many-nodes (f .before) (f .behind) (f .last) (f .row) (omega arith) (omega arith))
+
+  rule-full : (at : ℕ) → TooManyNodes file at → FirstFull at
+  unfolding addNodes
+  rule-full at (too-many-nodes before after e row within over) =
+      let passed-by = gone-nodes 0 before in
+      let sum = nodes-more before e in
+      record { before = before; last = e; behind = after; row = row; within = omega arith; over = omega arith; here = refl }
+
+  abbrev FirstDeep : ℕ → Type 0
+  FirstDeep = FirstBad isShallow 4 (λ (e : Entry). e .start) (entriesOf file)
+
+  deep-rule : (at : ℕ) → FirstDeep at → TooDeep file at
+  deep-rule at f = subst (TooDeep file) (sym (f .here)) (too-deep (f .before) (f .behind) (f .bad) (f .row) (f .all-good) (f .is-bad))
+
+  rule-deep : (at : ℕ) → TooDeep file at → FirstDeep at
+  rule-deep at (too-deep before after e row calm bad) =
+      record { before = before; bad = e; behind = after; row = row; all-good = calm; is-bad = bad; here = refl }
+
+  abbrev FirstLong : ℕ → Type 0
+  FirstLong = FirstOver addBases length addBases-grows mostListed 5 (λ (e : Entry). e .start) [] (entriesOf file)
+
+  long-rule : (at : ℕ) → FirstLong at → TooManyListed file at
+  unfolding listOf addBases
+  long-rule at f =
+      let passed-by = ap length (gone-bases [] (f .before)) in
+      let more = ap length (list-more (f .before) (f .last)) in
+      let within = f .within in
+      let over =
+      subst (λ (fs : List Formula). mostListed < length (enlist fs (weakenedBases [] (formulaIn (f .last .sentence)))))
+      (gone-bases [] (f .before)) (f .over) in
+      subst (TooManyListed file) (sym (f .here)) (too-many-listed (f .before) (f .behind) (f .last) (f .row) (omega arith) (omega arith))
+
+  rule-long : (at : ℕ) → TooManyListed file at → FirstLong at
+  unfolding listOf addBases
+  rule-long at (too-many-listed before after e row within over) =
+      let passed-by = ap length (gone-bases [] before) in
+      let more = ap length (list-more before e) in
+      record {
+        before = before;
+        last = e;
+        behind = after;
+        row = row;
+        within = omega arith;
+        over =
+            subst (λ (fs : List Formula). mostListed < length (enlist fs (weakenedBases [] (formulaIn (e .sentence)))))
+            (sym (gone-bases [] before)) (omega arith);
+        here = refl;
+      }
 
 -- ---- The codes of a call
 
@@ -195,99 +201,27 @@ module _ (file : List ℕ) where
   says2 : Says (record { number = 2; rule = LineNotWellFormed file }) (code2 file)
   unfolding code2
   says2 =
-      record {
-        given = λ place h. given h;
-        either =
-            ⊎-elim (λ p. inl (code2-scanned (linesOf file) ∙ p))
-            (λ found.
-            let f = found .1 .1 in
-            inr (
-              found .0,
-              (
-                code2-scanned (linesOf file) ∙ found .1 .0,
-                subst (LineNotWellFormed file) (sym (f .here))
-                    (line-not-well-formed (f .before) (f .behind) (f .bad) (f .row) (f .all-good) (f .is-bad)),
-              ),
-            ))
-            (first-scanned isWellFormed 2 (λ (l : Line). l .start) (linesOf file));
-      }
-    where
-      given : {place : ℕ} → LineNotWellFormed file place → code2From (linesOf file) ≡ Refused 2 place
-      given (line-not-well-formed before after line row calm bad) =
-          code2-scanned (linesOf file)
-          ∙ (ap (scanned isWellFormed 2 (λ (l : Line). l .start)) row
-          ∙ scanned-first isWellFormed 2 (λ (l : Line). l .start) before line after calm bad)
+      subst (Says (record { number = 2; rule = LineNotWellFormed file })) (sym (code2-scanned (linesOf file)))
+      (scanned-says isWellFormed 2 (λ (l : Line). l .start) (linesOf file) (LineNotWellFormed file) (deformed-rule file) (rule-deformed file))
 
   says3 : Says (record { number = 3; rule = TooManyNodes file }) (code3 (entriesOf file))
   unfolding code3
   says3 =
-      record {
-        given = λ place h. given h;
-        either =
-            ⊎-elim (λ p. inl p)
-            (λ found.
-            let f = found .1 .1 in
-            inr (
-              found .0,
-              (
-                found .1 .0,
-                subst (TooManyNodes file) (sym (f .1 .1 .1 .1 .1 .1))
-                    (too-many-nodes (f .0) (f .1 .0) (f .1 .1 .0) (f .1 .1 .1 .0) (f .1 .1 .1 .1 .0) (f .1 .1 .1 .1 .1 .0)),
-              ),
-            ))
-            (over-code3 (entriesOf file));
-      }
-    where
-      given : {place : ℕ} → TooManyNodes file place → code3From 0 (entriesOf file) ≡ Refused 3 place
-      given (too-many-nodes before after e row within over) = ap (code3From 0) row ∙ code3-over before after e within over
+      subst (Says (record { number = 3; rule = TooManyNodes file })) (sym (code3-counted 0 (entriesOf file)))
+      (counted-says addNodes (λ (n : ℕ). n) addNodes-grows mostNodes 3 (λ (e : Entry). e .start) 0 (entriesOf file) (omega arith) (TooManyNodes file)
+      (full-rule file) (rule-full file))
 
   says4 : Says (record { number = 4; rule = TooDeep file }) (code4 (entriesOf file))
   says4 =
-      record {
-        given = λ place h. given h;
-        either =
-            ⊎-elim (λ p. inl (code4-scanned (entriesOf file) ∙ p))
-            (λ found.
-            let f = found .1 .1 in
-            inr (
-              found .0,
-              (
-                code4-scanned (entriesOf file) ∙ found .1 .0,
-                subst (TooDeep file) (sym (f .here))
-                    (too-deep (f .before) (f .behind) (f .bad) (f .row) (f .all-good) (f .is-bad)),
-              ),
-            ))
-            (first-scanned isShallow 4 (λ (e : Entry). e .start) (entriesOf file));
-      }
-    where
-      given : {place : ℕ} → TooDeep file place → code4 (entriesOf file) ≡ Refused 4 place
-      given (too-deep before after e row calm bad) =
-          code4-scanned (entriesOf file)
-          ∙ (ap (scanned isShallow 4 (λ (f : Entry). f .start)) row
-          ∙ scanned-first isShallow 4 (λ (f : Entry). f .start) before e after calm bad)
+      subst (Says (record { number = 4; rule = TooDeep file })) (sym (code4-scanned (entriesOf file)))
+      (scanned-says isShallow 4 (λ (e : Entry). e .start) (entriesOf file) (TooDeep file) (deep-rule file) (rule-deep file))
 
   says5 : Says (record { number = 5; rule = TooManyListed file }) (code5 (entriesOf file))
   unfolding code5
   says5 =
-      record {
-        given = λ place h. given h;
-        either =
-            ⊎-elim (λ p. inl p)
-            (λ found.
-            let f = found .1 .1 in
-            inr (
-              found .0,
-              (
-                found .1 .0,
-                subst (TooManyListed file) (sym (f .1 .1 .1 .1 .1 .1))
-                    (too-many-listed (f .0) (f .1 .0) (f .1 .1 .0) (f .1 .1 .1 .0) (f .1 .1 .1 .1 .0) (f .1 .1 .1 .1 .1 .0)),
-              ),
-            ))
-            (over-code5 (entriesOf file));
-      }
-    where
-      given : {place : ℕ} → TooManyListed file place → code5From [] (entriesOf file) ≡ Refused 5 place
-      given (too-many-listed before after e row within over) = ap (code5From []) row ∙ code5-over before after e within over
+      subst (Says (record { number = 5; rule = TooManyListed file })) (sym (code5-counted [] (entriesOf file)))
+      (counted-says addBases length addBases-grows mostListed 5 (λ (e : Entry). e .start) [] (entriesOf file) (omega arith) (TooManyListed file)
+      (long-rule file) (rule-long file))
 
   -- the codes about the file alone
   pub file-speaks : Speaks (fileRow file) (fileCodes file)

@@ -69,6 +69,13 @@ goes-on : (b : Bool) (code place : ℕ) (later : Verdict) → b ≡ false → an
 unfolding andThen when
 goes-on b code place later h = rw h
 
+-- ---- What a verdict says
+
+-- A code's verdict says whether its rule holds, and where.
+pub record Says (c : Code) (v : Verdict) : Type 1 where
+  pub given : (place : ℕ) → c .rule place → v ≡ Refused (c .number) place
+  pub either : (v ≡ Passed) ⊎ ((place : ℕ) × ((v ≡ Refused (c .number) place) × c .rule place))
+
 -- ---- The first element of a row that is bad by itself
 
 module _ {E : Type 0} (good : E → Bool) (code : ℕ) (place : E → ℕ) where
@@ -85,7 +92,7 @@ module _ {E : Type 0} (good : E → Bool) (code : ℕ) (place : E → ℕ) where
     pub is-bad : good bad ≡ false
     pub here : at ≡ place bad
 
-  pub scanned-first : (before : List E) (e : E) (behind : List E) → every good before ≡ true → good e ≡ false
+  scanned-first : (before : List E) (e : E) (behind : List E) → every good before ≡ true → good e ≡ false
       → scanned (before ++ (e ∷ behind)) ≡ Refused code (place e)
   unfolding scanned every
   scanned-first [] e behind calm bad = stops (not (good e)) code (place e) (scanned behind) (ap not bad)
@@ -94,7 +101,7 @@ module _ {E : Type 0} (good : E → Bool) (code : ℕ) (place : E → ℕ) where
       goes-on (not (good x)) code (place x) (scanned (before ++ (e ∷ behind))) (ap not (parts .0))
       ∙ scanned-first before e behind (parts .1) bad
 
-  pub first-scanned : (xs : List E) → (scanned xs ≡ Passed) ⊎ ((at : ℕ) × ((scanned xs ≡ Refused code at) × FirstBad xs at))
+  first-scanned : (xs : List E) → (scanned xs ≡ Passed) ⊎ ((at : ℕ) × ((scanned xs ≡ Refused code at) × FirstBad xs at))
   unfolding scanned every
   first-scanned [] = inl refl
   first-scanned (x ∷ xs) =
@@ -130,6 +137,18 @@ module _ {E : Type 0} (good : E → Bool) (code : ℕ) (place : E → ℕ) where
       ))
       (decided (good x))
 
+  -- a code whose rule holds at the first bad element
+  pub scanned-says : (xs : List E) (rule : ℕ → Type 0) → ((at : ℕ) → FirstBad xs at → rule at) → ((at : ℕ) → rule at → FirstBad xs at)
+      → Says (record { number = code; rule = rule }) (scanned xs)
+  scanned-says xs rule holds found =
+      record {
+        given =
+            λ at h.
+            let f = found at h in
+            ap scanned (f .row) ∙ (scanned-first (f .before) (f .bad) (f .behind) (f .all-good) (f .is-bad) ∙ ap (Refused code) (sym (f .here)));
+        either = ⊎-elim (λ pass. inl pass) (λ some. inr (some .0, (some .1 .0, holds (some .0) (some .1 .1)))) (first-scanned xs);
+      }
+
 -- ---- The first element of a row at which a growing number passes its limit
 
 module _ {S E : Type 0} (step : S → E → S) (size : S → ℕ) (grows : (s : S) (e : E) → size s ≤ size (step s e)) (most code : ℕ) (place : E → ℕ) where
@@ -155,7 +174,7 @@ module _ {S E : Type 0} (step : S → E → S) (size : S → ℕ) (grows : (s : 
     pub over : most < size (step (gone s before) last)
     pub here : at ≡ place last
 
-  pub counted-over : (s : S) (before : List E) (e : E) (behind : List E) → size (gone s before) ≤ most
+  counted-over : (s : S) (before : List E) (e : E) (behind : List E) → size (gone s before) ≤ most
       → most < size (step (gone s before) e) → counted s (before ++ (e ∷ behind)) ≡ Refused code (place e)
   unfolding counted gone
   counted-over s [] e behind within over =
@@ -165,7 +184,7 @@ module _ {S E : Type 0} (step : S → E → S) (size : S → ℕ) (grows : (s : 
       (le-ltb most (size (step s x)) (le-trans (gone-grows (step s x) before) within))
       ∙ counted-over (step s x) before e behind within over
 
-  pub over-counted : (s : S) (xs : List E) → size s ≤ most
+  over-counted : (s : S) (xs : List E) → size s ≤ most
       → (counted s xs ≡ Passed) ⊎ ((at : ℕ) × ((counted s xs ≡ Refused code at) × FirstOver s xs at))
   unfolding counted gone
   over-counted s [] within = inl refl
@@ -210,6 +229,18 @@ module _ {S E : Type 0} (step : S → E → S) (size : S → ℕ) (grows : (s : 
       (over-counted (step s x) xs (ltb-false most (size (step s x)) fits)))
       (decided (ltb most (size (step s x))))
 
+  -- a code whose rule holds where the number first passes its limit
+  pub counted-says : (s : S) (xs : List E) → size s ≤ most → (rule : ℕ → Type 0) → ((at : ℕ) → FirstOver s xs at → rule at)
+      → ((at : ℕ) → rule at → FirstOver s xs at) → Says (record { number = code; rule = rule }) (counted s xs)
+  counted-says s xs within rule holds found =
+      record {
+        given =
+            λ at h.
+            let f = found at h in
+            ap (counted s) (f .row) ∙ (counted-over s (f .before) (f .last) (f .behind) (f .within) (f .over) ∙ ap (Refused code) (sym (f .here)));
+        either = ⊎-elim (λ pass. inl pass) (λ some. inr (some .0, (some .1 .0, holds (some .0) (some .1 .1)))) (over-counted s xs within);
+      }
+
 -- ---- What a row of codes gives
 
 -- a row tried in two parts, and in one of them alone
@@ -217,11 +248,6 @@ pub tried-append : (vs ws : List Verdict) → tried (vs ++ ws) ≡ andThen (trie
 unfolding tried andThen
 tried-append [] ws = refl
 tried-append (v ∷ vs) ws = ap (andThen v) (tried-append vs ws) ∙ sym (andThen-assoc v (tried vs) (tried ws))
-
--- A code's verdict says whether its rule holds, and where.
-pub record Says (c : Code) (v : Verdict) : Type 1 where
-  pub given : (place : ℕ) → c .rule place → v ≡ Refused (c .number) place
-  pub either : (v ≡ Passed) ⊎ ((place : ℕ) × ((v ≡ Refused (c .number) place) × c .rule place))
 
 -- the verdicts of a row of codes, none of which has the number 0
 pub data Speaks : List Code → List Verdict → Type 1 where
