@@ -1,4 +1,4 @@
--- What the small tests of a settlement tell: of the room for answers.
+-- How many answers a text has room for.
 -- Assumes nothing.
 use Prim.Native.Nat.{ℕ, _≤_}
 use native.Mathlib.Omega.{arith}
@@ -11,7 +11,6 @@ use lib.Dec.{ltb}
 use Rattle.infon.proofs.Rows.{decided}
 use Rattle.settling.specs.Settled.{textBytes, answerRoom}
 
--- how many answers a text has room for
 pub room-few : (text : List ℕ) → answerRoom text ≤ 1024
 unfolding answerRoom
 room-few text =

@@ -1,4 +1,4 @@
--- What a run works on, the codes that it tries itself, and what it leaves.
+-- What a run works on, and what it leaves.
 use Prim.Native.Nat.{ℕ, _*_, _≤_}
 use mathlib.Core.Path.{_≡_}
 use mathlib.Core.List.{List}
