@@ -135,16 +135,23 @@ fn used_far_beyond_the_list() {
 }
 
 /// The longest list there is: 4,096 records fill 36,864 bytes, and nothing of what
-/// is used behind them is kept.
-#[test]
-fn used_far_beyond_the_longest_list() {
+/// is used behind this many of them is kept.
+fn check_used_far_beyond_the_longest(records: usize) {
     let mut checker = Checker::default();
     let file = kinds::one_name(1_024);
     let policy = Policy::read(&file).expect("accepted");
-    for records in [4_095, 4_096] {
-        check_used_far(&mut checker, &policy, &file, records);
-    }
+    check_used_far(&mut checker, &policy, &file, records);
     println!("{} calls", checker.calls);
+}
+
+#[test]
+fn used_far_beyond_the_longest_list() {
+    check_used_far_beyond_the_longest(4_096);
+}
+
+#[test]
+fn used_far_beyond_the_longest_list_but_its_last() {
+    check_used_far_beyond_the_longest(4_095);
 }
 
 /// A file's own codes leave the buffers alone and the used length as it was,

@@ -1,31 +1,13 @@
-// The C boundary, and nothing else: include/brimusket.h declares what stands here.
+// The C boundary, and nothing else: include/brimusket.h declares what stands here. Each slice is a pointer and a length, and what is
+// returned is laid out for C where it is declared.
+use infon::Report;
+use settling::Settlement;
 ghost use mathlib.Core.Path.{_≡_};
 ghost use Rattle.infon.specs.Run.{run as ranOn};
+ghost use Rattle.working.specs.Working.{left};
 ghost use Rattle.settling.specs.Settled.{Settles};
-ghost use Rattle.brimusket.specs.Boundary.{outcomeIn, settlementIn};
 
-// What a run returns, laid out for C.
-#[repr(C)]
-pub struct Reported {
-    pub code: usize,
-    pub place: usize,
-    pub kept: usize,
-    pub added: usize,
-    pub finished: bool,
-    pub used: usize,
-}
-
-// What a settled call returns, laid out for C: the run's report, how many whole records the journal had, what of it was not kept, and
-// the length of the text.
-#[repr(C)]
-pub struct Settled {
-    pub report: Reported,
-    pub records: usize,
-    pub dropped: usize,
-    pub length: usize,
-}
-
-// The run, for C: each slice is a pointer and a length.
+// The run, for C.
 #[no_mangle]
 pub extern "C" fn brimusket_run(
     file: &[u8],
@@ -33,19 +15,11 @@ pub extern "C" fn brimusket_run(
     used: usize,
     limit: usize,
     answers: &mut [u8],
-) -> Reported
-    ensures { λ r. ⌜ outcomeIn r (now (journal .exit)) (now (answers .exit))
+) -> Report
+    ensures { λ r. ⌜ left r (now (journal .exit)) (now (answers .exit))
         ≡ ranOn (now (file .entry)) (now (journal .entry)) used limit (now (answers .entry)) ⌝ }
 {
-    let report = run::run(file, journal, used, limit, answers);
-    Reported {
-        code: report.code,
-        place: report.place,
-        kept: report.kept,
-        added: report.added,
-        finished: report.finished,
-        used: report.used,
-    }
+    run::run(file, journal, used, limit, answers)
 }
 
 // The run with what is to be printed of it, for C.
@@ -57,24 +31,9 @@ pub extern "C" fn brimusket_settle(
     limit: usize,
     questions: bool,
     text: &mut [u8],
-) -> Settled
-    ensures { λ r. ⌜ Settles (now (file .entry)) (now (journal .entry)) used limit questions (now (text .entry)) (settlementIn r)
+) -> Settlement
+    ensures { λ r. ⌜ Settles (now (file .entry)) (now (journal .entry)) used limit questions (now (text .entry)) r
         (now (journal .exit)) (now (text .exit)) ⌝ }
 {
-    let settled = settling::settle(file, journal, used, limit, questions, text);
-    let told = settled.report;
-    let report = Reported {
-        code: told.code,
-        place: told.place,
-        kept: told.kept,
-        added: told.added,
-        finished: told.finished,
-        used: told.used,
-    };
-    Settled {
-        report,
-        records: settled.records,
-        dropped: settled.dropped,
-        length: settled.length,
-    }
+    settling::settle(file, journal, used, limit, questions, text)
 }

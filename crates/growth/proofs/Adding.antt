@@ -9,7 +9,7 @@ use mathlib.Core.List.{List, [], _∷_, _++_}
 use lib.ListN.{length, getD, take, drop, set}
 use lib.Bits.{bitOr, or-add-and, and-le-r}
 use Rattle.infon.specs.declared.Record.{Record}
-use Rattle.infon.specs.Journal.{recordBytes, spelled, allRecords}
+use Rattle.infon.specs.Journal.{spelled, allRecords}
 use Rattle.infon.specs.Run.{written}
 use Rattle.infon.proofs.Codec.{length-spelled}
 use Rattle.infon.proofs.Grown.{firstOf-passes}
@@ -70,14 +70,13 @@ module _ {t links : List ℕ} {n : ℕ} {marks cover journal : List ℕ} {count 
         omega arith
 
     pub record-room : count * 9 + 9 ≤ length journal
-    unfolding recordBytes
     record-room = let room = addable .room r is-due in omega arith
 
     pub one-added : {last after : List ℕ} → last ≡ written (take (length journal - count * 9) (drop (count * 9) journal)) 0 (spelled r)
         → after ≡ wantedAll t n (set marks (r .formula) 1) left (touching t n (r .formula))
         → Adds t n marks cover journal count (Due r) (set marks (r .formula) 1) after
         (take (count * 9) journal ++ (last ++ drop (length journal - count * 9) (drop (count * 9) journal)))
-    unfolding marksWith journalWith coverWith recordBytes
+    unfolding marksWith journalWith coverWith
     one-added e widened =
         let nine : length (spelled r) ≡ 9 = length-spelled r in
         let fits = record-room in

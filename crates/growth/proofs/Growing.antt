@@ -60,7 +60,6 @@ some-is e = rw e
 
 pub begin : {t links : List ℕ} {n : ℕ} {marks journal : List ℕ} {kept limit : ℕ} → Roomy t links n marks journal kept limit
     → Growing t links n marks journal kept limit marks journal 0
-unfolding recordBytes
 begin {t} {links} {n} {marks} {journal} {kept} {limit} roomy =
     let all : limit - 0 ≡ limit = omega arith in
     let room = roomy .room in
@@ -83,7 +82,6 @@ module _ {t links : List ℕ} {n : ℕ} {marks₀ journal₀ : List ℕ} {kept l
   -- below the limit, a record that is next has room behind what is added, and before it
   pub addable : {cover : List ℕ} {count : ℕ} → Covering t n marks cover → added < limit → count ≤ kept + added
       → Addable t links n marks cover journal count
-  unfolding recordBytes
   addable covering more behind =
       record {
         ready = growing .ready;
@@ -121,7 +119,7 @@ module _ {t links : List ℕ} {n : ℕ} {marks₀ journal₀ : List ℕ} {kept l
       (adds : Adds t n marks cover journal (kept + added) answer marksAfter coverAfter journalAfter) where
     pub turn : (r : Record) → added < limit → length cover ≡ 64 → answer ≡ Due r
         → Growing t links n marks₀ journal₀ kept limit marksAfter journalAfter (added + 1) × Covering t n marksAfter coverAfter
-    unfolding marksWith journalWith recordBytes markAll spelledAll
+    unfolding marksWith journalWith markAll spelledAll
     turn r more long told =
         let due : nextIn t n marks ≡ some r = next-due (nextIn t n marks) r (sym told ∙ adds .found .is-next) in
         let step = goes-on r more due in

@@ -49,7 +49,6 @@ module _ (hyps fs : List Formula) (t : List ℕ) (n : ℕ) where
     -- a journal with room for the whole list has room for what is added to good records
     pub room : (links journal : List ℕ) → Searchable t links marks n → GoodRow hyps fs [] done → recordBytes * n ≤ length journal
         → Roomy t links n marks journal (length done) limit
-    unfolding recordBytes
     room links journal ready row long =
         let short = grown-short hyps fs done row limit in
         let same = ap length (grown-in limit done marks held) in

@@ -49,12 +49,12 @@ wayOf-spelled (Apply p q) = refl
 wayOf-spelled (Attach p) = refl
 
 pub length-spelled : (r : Record) → length (spelled r) ≡ recordBytes
-unfolding spelled twoBytes recordBytes
+unfolding spelled twoBytes
 length-spelled r = refl
 
 -- nine bytes in front of others are read back as the record that they spell
 pub decoded-front : (r : Record) (t : List ℕ) → Small r → decoded (take recordBytes (spelled r ++ t)) ≡ some r
-unfolding decoded spelled twoBytes recordBytes numberAt recordFor
+unfolding decoded spelled twoBytes numberAt recordFor
 decoded-front r t small =
     rw (
       read-two-bytes (r .formula) (small .number),
@@ -64,7 +64,7 @@ decoded-front r t small =
     )
 
 pub decoded-spelled : (r : Record) → Small r → decoded (spelled r) ≡ some r
-unfolding spelled twoBytes recordBytes
+unfolding spelled twoBytes
 decoded-spelled r small = decoded-front r [] small
 
 pub decoded-spelled-each : (rs : List Record) → ((r : Record) → List·Memᴰ r rs → Small r) → map decoded (map spelled rs) ≡ map some rs
@@ -76,7 +76,7 @@ decoded-spelled-each (r ∷ rest) small =
     )
 
 pub length-spelledAll : (rs : List Record) → length (spelledAll rs) ≡ recordBytes * length rs
-unfolding spelledAll recordBytes
+unfolding spelledAll
 length-spelledAll [] = refl
 length-spelledAll (r ∷ rest) = rw (length-append (spelled r) (spelledAll rest), length-spelled r, length-spelledAll rest) (omega arith)
 
@@ -197,7 +197,7 @@ recordFor-some n (some w) r e =
 
 -- nine bytes that are read as a record are the ones that it spells
 pub spelled-decoded : (s : List ℕ) (r : Record) → length s ≡ recordBytes → AreBytes s → decoded s ≡ some r → spelled r ≡ s
-unfolding decoded numberAt spelled recordBytes numbersFrom
+unfolding decoded numberAt spelled numbersFrom
 spelled-decoded s r nine bytes e =
     elim (cond-cases (eqb (getD s 0 0) 0x4C && eqb (getD s 1 0) 0x51) _ none (some r) e) [
       | inl marked ↦ let marks = and-true (eqb (getD s 0 0) 0x4C) (eqb (getD s 1 0) 0x51) (marked .0) in
@@ -228,7 +228,7 @@ bytes-take (suc n) (b ∷ s) bytes (suc i) = bytes-take n s (λ (j : ℕ). bytes
 pub spelledAll-decoded : (rs : List Record) (n : ℕ) (s : List ℕ) → AreBytes s → recordBytes * n ≤ length s
     → map decoded (take (length rs) (wholeRecords n s)) ≡ map some rs → take (recordBytes * length rs) s ≡ spelledAll rs
 unfolding wholeRecords spelledAll
-spelledAll-decoded [] n s bytes h e = rw mul-zero
+spelledAll-decoded [] n s bytes h e = refl
 spelledAll-decoded (r ∷ rest) zero s bytes h e = absurd (nil≢cons e)
 spelledAll-decoded (r ∷ rest) (suc n) s bytes h e =
     let all : recordBytes * n + recordBytes ≤ length s = rw mul-suc at h in

@@ -131,7 +131,6 @@ module _ (hyps fs : List Formula) where
 
   module _ (short : length fs ≤ 4096) (journal : List ℕ) (used : ℕ) (standing : Standing hyps fs journal used) where
     whole-fits : used / recordBytes ≤ length (grown hyps fs [] (standing .number))
-    unfolding recordBytes
     whole-fits = omega arith
 
     whole-begins : take (recordBytes * (used / recordBytes)) journal ≡ take (recordBytes * (used / recordBytes)) (spelledAll (grown hyps fs [] (standing .number)))

@@ -123,14 +123,12 @@ unfolding answerByte answerOf
 unfinished-open h e = rw (h, e)
 
 whole-within : (used size : ℕ) → used ≤ size → recordBytes * (used / recordBytes) ≤ size
-unfolding recordBytes
 whole-within used size h = omega arith
 
 one-not-zero : _≡_ {A = ℕ} 1 0 → ⊥
 one-not-zero e = omega arith
 
 nine-times : (n : ℕ) → recordBytes * n / recordBytes ≡ n
-unfolding recordBytes
 nine-times n = omega arith
 
 module _ (file journal : List ℕ) (used limit : ℕ) (answers : List ℕ) (accepted : run file journal used limit answers .report .code ≡ 0) where
@@ -257,7 +255,7 @@ module _ (file journal : List ℕ) (used limit : ℕ) (answers : List ℕ) (acce
   -- .. and their bytes stay.
   pub kept-stay : take (recordBytes * length (keptPart file journal used)) (run file journal used limit answers .journal)
       ≡ take (recordBytes * length (keptPart file journal used)) journal
-  unfolding success recordBytes
+  unfolding success
   kept-stay =
       let added = addedPart file journal used limit in
       let start = recordBytes * length (keptPart file journal used) in

@@ -20,7 +20,7 @@ use Rattle.infon.specs.Rules.{numbered, gives}
 
 -- "Nine bytes a record, high byte first: the mark 4C 51, the rule (one byte), the formula's number, first premise, second
 -- premise (two bytes each). .. FF FF stands for no premise."
-unfoldable pub recordBytes : ℕ
+abbrev pub recordBytes : ℕ
 recordBytes = 9
 
 abbrev pub markHigh : ℕ

@@ -101,7 +101,7 @@ queriesOf [] = []
 queriesOf (e ∷ rest) = elim (e .sentence) [ hypothesis x ↦ queriesOf rest | query x ↦ x ∷ queriesOf rest ]
 
 -- 1: "the file is over 32,768 bytes", place 0
-unfoldable pub mostBytes : ℕ
+abbrev pub mostBytes : ℕ
 mostBytes = 32768
 
 unfoldable pub code1 : List ℕ → Verdict

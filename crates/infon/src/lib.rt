@@ -29,7 +29,8 @@ pub enum Answer {
     Open,
 }
 
-// What a run returns.
+// What a run returns, laid out for C.
+#[repr(C)]
 pub struct Report {
     pub code: usize,
     pub place: usize,

@@ -33,7 +33,7 @@ rowsFrom journal used kept = wholeRecords (used / 9 - kept) (drop (kept * 9) jou
 
 rows-more : (journal : List ℕ) (used kept : ℕ) → kept < used / 9
     → rowsFrom journal used kept ≡ rowAt journal kept ∷ rowsFrom journal used (kept + 1)
-unfolding rowsFrom wholeRecords recordBytes
+unfolding rowsFrom wholeRecords
 rows-more journal used kept h =
     let left : used / 9 - kept ≡ suc (used / 9 - (kept + 1)) = omega arith in
     let next : kept * 9 + 9 ≡ (kept + 1) * 9 = omega arith in
@@ -70,7 +70,7 @@ module _ (t : List ℕ) (n : ℕ) (marks : List ℕ) (read : Decoded) (kept used
   none-next e = record { told = rw e; marked = rw e }
 
   pub behind-used : used / 9 ≤ kept → KeepsNext t n marks read kept used false marks
-  unfolding keptNext recordBytes
+  unfolding keptNext
   behind-used h = none-next (rw (le-ltb kept (used / 9) h))
 
   none-good : onlyGoodIn t n marks (recordOf read) ≡ none → KeepsNext t n marks read kept used false marks
@@ -87,14 +87,14 @@ module _ (t : List ℕ) (n : ℕ) (marks : List ℕ) (read : Decoded) (kept used
     not-good failed = none-good (rw (told, sym tests ∙ not-true _ failed))
 
     pub is-kept : kept < used / 9 → not good ≡ false → KeepsNext t n marks read kept used true (set marks (r .formula) 1)
-    unfolding keptNext recordBytes onlyGoodIn hasNone markedWith
+    unfolding keptNext onlyGoodIn hasNone markedWith
     is-kept h passed =
         let e : keptNext t n marks read kept used ≡ some r = rw (lt-ltb kept (used / 9) h, told, sym tests ∙ not-false _ passed) in
         record { told = rw e; marked = rw e }
 
 module _ (t : List ℕ) (n : ℕ) (journal : List ℕ) (used : ℕ) (marks₀ : List ℕ) where
   pub begin : used ≤ length journal → Going t n journal used marks₀ 0 marks₀
-  unfolding rowsFrom keptIn recordBytes
+  unfolding rowsFrom keptIn
   begin inside = let all : used / 9 - 0 ≡ used / 9 = omega arith in record { inside = inside; within = omega arith; long = refl; counts = rw (all, zero-add); marked = rw all }
 
   module _ {kept : ℕ} {marks : List ℕ} (going : Going t n journal used marks₀ kept marks) where
@@ -102,13 +102,13 @@ module _ (t : List ℕ) (n : ℕ) (journal : List ℕ) (used : ℕ) (marks₀ : 
     next-is : {read : Decoded} → kept < used / 9 → read ≡ toDecoded (recordAt journal (kept * 9))
         → keptBy t n marks (rowsFrom journal used kept)
         ≡ followed (keptNext t n marks read kept used) (λ (r : Record). keptBy t n (set marks (r .formula) 1) (rowsFrom journal used (kept + 1)))
-    unfolding keptBy keptNext recordBytes
+    unfolding keptBy keptNext
     next-is h reads =
         let inside = going .inside in
         rw (rows-more journal used kept h, lt-ltb kept (used / 9) h, reads, record-of, nine-left journal (kept * 9) (omega arith))
 
     inside-used : (read : Decoded) (r : Record) → keptNext t n marks read kept used ≡ some r → kept < used / 9
-    unfolding keptNext recordBytes
+    unfolding keptNext
     inside-used read r e =
         ⊎-elim
         (λ (h : ltb kept (used / 9) ≡ true). ltb-true kept (used / 9) h)

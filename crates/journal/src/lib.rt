@@ -9,7 +9,7 @@ use reader::NO_PREMISE;
 ghost use mathlib.Core.Path.{_≡_};
 ghost use Prim.Native.Nat.{_+_, _<_, _≤_};
 ghost use lib.ListN.{length};
-ghost use Rattle.infon.specs.Journal.{ruleOf, firstPremise, secondPremise, twoBytes, spelled};
+ghost use Rattle.infon.specs.Journal.{recordBytes, ruleOf, firstPremise, secondPremise, twoBytes, spelled};
 ghost use Rattle.infon.specs.Run.{written};
 ghost use Rattle.formulas.specs.Table.{tableRows, tableCells};
 ghost use Rattle.journal.specs.Kept.{KeepsNext, Keeps};
@@ -73,7 +73,7 @@ fn put_number(tail: &mut [u8], at: usize, number: usize)
 
 // Writes a record's nine bytes at the front of the journal's tail.
 pub fn encode(tail: &mut [u8], r: Record)
-    requires { ⌜ 9 ≤ length (now tail) ⌝ }
+    requires { ⌜ recordBytes ≤ length (now tail) ⌝ }
     ensures { λ _. ⌜ now (tail .exit) ≡ written (now (tail .entry)) 0 (spelled r) ⌝ }
 {
     let formula = r.formula;

@@ -8,19 +8,19 @@ use lib.Dec.{ltb}
 use borrow.Author.Tests.{lt-ltb, le-ltb, ltb-false}
 use Rattle.infon.specs.declared.Verdict.the-variants.{Passed, Refused}
 use Rattle.infon.specs.Codes.{andThen, tried}
-use Rattle.infon.specs.Policy.{entriesOf, mostBytes, code1, code2, code3}
+use Rattle.infon.specs.Policy.{entriesOf, code1, code2, code3}
 use Rattle.infon.proofs.Tried.{andThen-passed, when-passed, when-true, when-false, pass-on, stop-at, andThen-end}
 use Rattle.policy.specs.Codes.{firstCodes}
 
 module _ (file : List ℕ) where
   pub check-long : 32768 < length file → Refused 1 0 ≡ tried (firstCodes file)
-  unfolding tried firstCodes code1 mostBytes
+  unfolding tried firstCodes code1
   check-long h =
       sym (stop-at (when-true (ltb 32768 (length file)) 1 0 (lt-ltb 32768 (length file) h)) (tried (code2 file ∷ (code3 (entriesOf file) ∷ []))))
 
   module _ (short : length file ≤ 32768) where
     check-short : tried (firstCodes file) ≡ tried (code2 file ∷ (code3 (entriesOf file) ∷ []))
-    unfolding tried firstCodes code1 mostBytes
+    unfolding tried firstCodes code1
     check-short =
         pass-on (when-false (ltb 32768 (length file)) 1 0 (le-ltb 32768 (length file) short)) (tried (code2 file ∷ (code3 (entriesOf file) ∷ [])))
 
@@ -34,7 +34,7 @@ module _ (file : List ℕ) where
 
   -- what a file that passes is known to be
   pub check-passed : tried (firstCodes file) ≡ Passed → (length file ≤ 32768) × ((code2 file ≡ Passed) × (code3 (entriesOf file) ≡ Passed))
-  unfolding tried firstCodes code1 mostBytes
+  unfolding tried firstCodes code1
   check-passed h =
       let last = andThen (code3 (entriesOf file)) Passed in
       let first = andThen-passed (code1 file) (andThen (code2 file) last) h in

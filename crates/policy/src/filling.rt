@@ -21,7 +21,7 @@ ghost use mathlib.Core.Path.{_≡_};
 ghost use Prim.Native.Nat.{_≤_, _<_};
 ghost use lib.ListN.{length};
 ghost use Rattle.infon.specs.declared.Verdict.the-variants.{Passed};
-ghost use Rattle.infon.specs.Policy.{entriesOf, code2, code3};
+ghost use Rattle.infon.specs.Policy.{mostBytes, entriesOf, code2, code3};
 ghost use Rattle.nodes.specs.Nodes.{nodeValue, nodeCell, nodeTable, nodeRows, nodeDepth};
 ghost use Rattle.policy.specs.Filling.{kindNumber, firstCell, endedCell, endFrom, EndReads, handedDown, Begun, Holding, Passes};
 
@@ -47,7 +47,7 @@ fn kind_number(node: Parsed) -> usize
 pub fn fill_spots(file: &[u8], nodes: &mut [u16]) -> usize
     requires { ⌜ code2 (now file) ≡ Passed ⌝ }
     requires { ⌜ code3 (entriesOf (now file)) ≡ Passed ⌝ }
-    requires { ⌜ length (now file) ≤ 32768 ⌝ }
+    requires { ⌜ length (now file) ≤ mostBytes ⌝ }
     requires { ⌜ length (now nodes) ≡ nodeTable ⌝ }
     ensures { λ r. ⌜ Begun (now (file .entry)) r (now (nodes .entry)) (now (nodes .exit)) ⌝ }
 {

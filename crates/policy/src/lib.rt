@@ -16,7 +16,7 @@ ghost use Prim.Native.Nat.{_≤_};
 ghost use lib.ListN.{length};
 ghost use Rattle.infon.specs.declared.Verdict.the-variants.{Passed};
 ghost use Rattle.infon.specs.Codes.{tried};
-ghost use Rattle.infon.specs.Policy.{entriesOf, code2, code3};
+ghost use Rattle.infon.specs.Policy.{mostBytes, entriesOf, code2, code3};
 ghost use Rattle.policy.specs.Codes.{firstCodes};
 ghost use Rattle.nodes.specs.Nodes.{nodeTable};
 ghost use Rattle.policy.specs.Filling.{NodesFilled};
@@ -44,7 +44,7 @@ pub fn check(file: &[u8]) -> Verdict
 pub fn fill(file: &[u8], nodes: &mut [u16]) -> usize
     requires { ⌜ code2 (now file) ≡ Passed ⌝ }
     requires { ⌜ code3 (entriesOf (now file)) ≡ Passed ⌝ }
-    requires { ⌜ length (now file) ≤ 32768 ⌝ }
+    requires { ⌜ length (now file) ≤ mostBytes ⌝ }
     requires { ⌜ length (now nodes) ≡ nodeTable ⌝ }
     ensures { λ r. ⌜ NodesFilled (now (file .entry)) r (now (nodes .entry)) (now (nodes .exit)) ⌝ }
 {

@@ -8,7 +8,7 @@ use mathlib.Core.List.{List}
 use lib.ListN.{length, take, drop, getD, length-drop}
 use borrow.Author.Tests.{eq-eqb, ne-eqb, lt-ltb, le-ltb}
 use Rattle.infon.specs.declared.Way.{Way}
-use Rattle.infon.specs.Journal.{noPremise, alone, withOne, wayOf, recordFor, numberAt, decoded, recordBytes}
+use Rattle.infon.specs.Journal.{noPremise, alone, withOne, wayOf, recordFor, numberAt, decoded}
 use Rattle.reader.specs.declared.Rule.{Rule}
 use Rattle.reader.specs.declared.Rule.the-variants.{By, Unknown}
 use Rattle.reader.specs.Decoded.{toRule, recordAt}
@@ -75,11 +75,11 @@ module _ (s : List ℕ) {first second : ℕ} {rule : Rule} (high : getD s 0 0 �
 
 module _ (journal : List ℕ) (at : ℕ) where
   pub few-left : length journal < at + 9 → recordAt journal at ≡ none
-  unfolding recordAt recordBytes
+  unfolding recordAt
   few-left h = let few : length (drop at journal) < 9 = simp length-drop (omega arith) in rw (lt-ltb (length (drop at journal)) 9 few)
 
   pub nine-left : at + 9 ≤ length journal → recordAt journal at ≡ decoded (take 9 (drop at journal))
-  unfolding recordAt recordBytes
+  unfolding recordAt
   nine-left h = let nine : 9 ≤ length (drop at journal) = simp length-drop (omega arith) in rw (le-ltb (length (drop at journal)) 9 nine)
 
   -- the nine bytes as the code takes them

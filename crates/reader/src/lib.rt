@@ -11,7 +11,7 @@ use infon::Way;
 ghost use mathlib.Core.Path.{_≡_};
 ghost use Prim.Native.Nat.{_+_, _^_, _<_, _≤_};
 ghost use lib.ListN.{length};
-ghost use Rattle.infon.specs.Journal.{numberAt, alone, withOne, wayOf, decoded};
+ghost use Rattle.infon.specs.Journal.{recordBytes, numberAt, alone, withOne, wayOf, decoded};
 ghost use Rattle.reader.specs.Decoded.{toRule, toDecoded, recordAt};
 
 pub const MARK_HIGH: u8 = 0x4C;
@@ -89,7 +89,7 @@ fn way_of(rule: u8, first: usize, second: usize) -> Rule
 
 // The record that nine bytes spell, if they do.
 fn decode(bytes: &[u8]) -> Decoded
-    requires { ⌜ 9 ≤ length (now bytes) ⌝ }
+    requires { ⌜ recordBytes ≤ length (now bytes) ⌝ }
     ensures { λ r. ⌜ r ≡ toDecoded (decoded (now (bytes .entry))) ⌝ }
 {
     if bytes[0] != MARK_HIGH {
@@ -137,8 +137,8 @@ pub fn next_in<'a>(r: Reader<'a>) -> Decoded
 
 // The reader moved on to the next record's place.
 pub fn moved<'a>(r: Reader<'a>) -> Reader<'a>
-    requires { ⌜ r .at + 9 < 2 ^ 64 ⌝ }
-    ensures { λ q. ⌜ (q .journal ≡ r .entry .journal) × (q .at ≡ r .entry .at + 9) ⌝ }
+    requires { ⌜ r .at + recordBytes < 2 ^ 64 ⌝ }
+    ensures { λ q. ⌜ (q .journal ≡ r .entry .journal) × (q .at ≡ r .entry .at + recordBytes) ⌝ }
 {
     Reader {
         journal: r.journal,

@@ -10,7 +10,6 @@ use lib.ListN.{length, getD, take, length-take, List·getD-eq-default}
 use lib.Dec.{leb}
 use lib.Seq.{getD-take, getD-drop, drop-cons}
 use borrow.Author.Tests.{eq-eqb, ne-eqb, le-leb, lt-leb}
-use Rattle.infon.specs.Journal.{recordBytes}
 use Rattle.remains.specs.Dropped.{restOf, isBegun}
 
 -- a byte of the used ones, and none
@@ -25,7 +24,7 @@ module _ (journal : List ℕ) (used i other : ℕ) where
 -- the rest begins as a record does, by its first three bytes
 module _ (journal : List ℕ) (used first : ℕ) (at-first : first ≡ getD (take used journal) (9 * (used / 9)) 0x4C) where
   of-rest : (i other : ℕ) → getD (restOf journal used) i other ≡ getD (take used journal) (9 * (used / 9) + i) other
-  unfolding restOf recordBytes
+  unfolding restOf
   of-rest i other = getD-drop (9 * (used / 9)) (take used journal) i other
 
   first-is : getD (restOf journal used) 0 0x4C ≡ first

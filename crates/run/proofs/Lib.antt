@@ -1,2 +1,3 @@
 pub mod Accepting
+pub mod OneAnswer
 pub mod Promises

@@ -9,7 +9,6 @@ use lib.ListN.{length, take, replicate, length-append}
 use lib.Seq.{take-at}
 use borrow.Author.Tests.{lt-ltb, le-ltb}
 use Rattle.infon.specs.declared.Report.{Report}
-use Rattle.infon.specs.Policy.{mostBytes}
 use Rattle.infon.specs.Run.{Outcome, run}
 use Rattle.infon.proofs.Refusals.{accepted-passes, lets-pass}
 use Rattle.writing.specs.Placed.{Prints}
@@ -35,7 +34,6 @@ module _ (asked : Bool) (file : List ℕ) (code place : ℕ) (answers text : Lis
   shown h n printed p = rw (le-ltb (length text) 65536 h) p
 
 pub printable : (file : List ℕ) (code : ℕ) (answers text : List ℕ) → Shows file code answers → 65536 ≤ length text → code ≡ 0 → Printable file answers text
-unfolding mostBytes
 printable file code answers text known long accepted =
     let within = known .within accepted in
     record { lines = within .0; room = omega (arith, known .few, within .1) }

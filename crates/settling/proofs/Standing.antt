@@ -25,11 +25,9 @@ picked false false true n e h = (refl, λ z. absurd (omega arith))
 picked false false false n e h = absurd (omega arith)
 
 whole-below : (used : ℕ) → used % recordBytes ≡ 0 → recordBytes * (used / recordBytes) ≡ used
-unfolding recordBytes
 whole-below used e = omega arith
 
 more-records : (m n : ℕ) → m ≤ n → recordBytes * m ≤ recordBytes * n
-unfolding recordBytes
 more-records m n h = omega arith
 
 module _ (file journal : List ℕ) (used limit : ℕ) (asked : Bool) (text : List ℕ) (settled : Settlement) (after printed : List ℕ)

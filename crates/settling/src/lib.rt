@@ -9,7 +9,9 @@ ghost use Rattle.writing.specs.Placed.{Prints};
 ghost use Rattle.settling.specs.Settled.{answerRoom, textOf, Settles};
 ghost use Rattle.settling.specs.Telling.{settlementOf, Shows};
 
-// What a call came to: the run's report, how many whole records the journal had, what of it was not kept, and the length of the text.
+// What a call came to, laid out for C: the run's report, how many whole records the journal had, what of it was not kept, and the
+// length of the text.
+#[repr(C)]
 pub struct Settlement {
     pub report: Report,
     pub records: usize,

@@ -62,7 +62,6 @@ module _ (file journal : List ℕ) (used limit : ℕ) (answers : List ℕ) where
   -- code 9 is never given: there is room for the whole list
   room : recordBytes * length (listIn file) ≤ length journal
       → recordBytes * (length (keptPart file journal used) + length (addedPart file journal used limit)) ≤ length journal
-  unfolding recordBytes
   room fits =
       let all = grown-short (hypothesesIn file) (listIn file) (keptPart file journal used) (kept-is-such-a-row file journal used .0) limit in
       omega arith

@@ -3,7 +3,6 @@
 -- Assumes nothing.
 use Prim.Native.Nat.{_-_}
 use mathlib.Core.Path.{sym}
-use Rattle.infon.specs.Journal.{recordBytes}
 use Rattle.growth.proofs.Covering.{Covering, covering-filled}
 use Rattle.growth.proofs.Growing.{Growing, begin, addable, turn, none-added, limit-finished, limit-reached}
 use borrow.Author.Needs.{needs}
@@ -55,7 +54,6 @@ begin-requires c κs =
     (c .before .before .before .before .before .before .pre .ready, search needs)
 
 add-count : tie.Need-add-count Inv-loop μ-loop
-unfolding recordBytes
 add-count c =
     let inv = c .before .loop .inv in
     omega (arith, inv .0 .room, inv .0 .journal-long, c .before .before .before .before .before .before .before .before .before .before .good .1 .1 .1 .1 .0 .0)
@@ -82,7 +80,6 @@ same-length-2 : tie.Need-same-length-2 Inv-loop μ-loop
 same-length-2 c = search needs
 
 add-added : tie.Need-add-added Inv-loop μ-loop
-unfolding recordBytes
 add-added c =
     let call = c .before .before .before .before .before .before .before in
     let inv = call .before .before .before .before .before .loop .inv in

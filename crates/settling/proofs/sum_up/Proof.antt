@@ -2,7 +2,6 @@
 -- Assumes nothing.
 use borrow.Author.Needs.{needs}
 use borrow.Author.Tests.{eq-eqb, ne-eqb}
-use Rattle.infon.specs.Journal.{recordBytes}
 use Rattle.settling.specs.Telling.{settlementOf}
 use Rattle.settling.proofs.sum_up.Statement.{statement}
 use Rattle.settling.proofs.sum_up.Tie as tie
@@ -15,7 +14,7 @@ dropped-by-requires : tie.Need-dropped-by-requires
 dropped-by-requires c κs = search needs
 
 returns-2 : tie.Need-returns-2
-unfolding settlementOf recordBytes
+unfolding settlementOf
 returns-2 c = rw (eq-eqb _ _ (c .before .if1 .left), c .dropped-by .ensures)
 
 pub sum-up-spec : {M : Type 1} → statement M

@@ -1,6 +1,5 @@
 -- `working::work::work` meets its contract: the links, the kept part, the growth and the answers, each as its function ensures.
 -- Assumes nothing.
-use Rattle.infon.specs.Journal.{recordBytes}
 use Rattle.working.proofs.Working.{few, wide, grow-roomy, answerable, works, all-few}
 use native.Mathlib.Omega.{arith}
 use borrow.Author.Needs.{needs}
@@ -59,7 +58,6 @@ same-length-2 : tie.Need-same-length-2
 same-length-2 c = search needs
 
 returns : tie.Need-returns
-unfolding recordBytes
 returns c =
     λ hyps fs queries prepared.
     works hyps fs queries _ _ _ _ prepared _ _ _ _ (c .before .before .before .before .before .before .before .before .before .before .before .before .before .before .keep .ensures) _ _ _ _ (c .before .before .before .before .before .before .before .before .before .grow .ensures) _ _ (c .before .before .before .answer-all .ensures)
