@@ -10,7 +10,7 @@ use Rattle.printing.specs.Printed.{printedOf}
 use Rattle.settling.specs.Settled.{textBytes, answerRoom, settledRun, textOf, settledText}
 use Rattle.desk.specs.Desk.{deskRun, deskText}
 
-pub settled-desk : (file text : List ℕ) → 65536 ≤ length text → (n : ℕ) (printed : List ℕ)
+pub settled-desk : (file text : List ℕ) → textBytes ≤ length text → (n : ℕ) (printed : List ℕ)
     → Prints (settledText file (replicate 36864 0) 0 4096 false text) text n printed → Prints (deskText file) text n printed
-unfolding settledText textOf settledRun answerRoom textBytes deskText deskRun printedOf
-settled-desk file text long n printed p = rw (le-ltb (length text) 65536 long) at p
+unfolding settledText textOf settledRun answerRoom deskText deskRun printedOf
+settled-desk file text long n printed p = rw (le-ltb (length text) textBytes long) at p

@@ -9,11 +9,12 @@ use settling::TEXT_BYTES;
 ghost use Prim.Native.Nat.{_≤_};
 ghost use lib.ListN.{length};
 ghost use Rattle.writing.specs.Placed.{Prints};
+ghost use Rattle.settling.specs.Settled.{textBytes};
 ghost use Rattle.desk.specs.Desk.{deskText};
 
 // Runs a policy file from an empty journal to the end, puts what is to be printed into text, and returns its length.
 fn answer(file: &[u8], text: &mut [u8]) -> usize
-    requires { ⌜ 65536 ≤ length (now text) ⌝ }
+    requires { ⌜ textBytes ≤ length (now text) ⌝ }
     ensures { λ r. ⌜ Prints (deskText (now (file .entry))) (now (text .entry)) r (now (text .exit)) ⌝ }
 {
     let mut journal = [0u8; JOURNAL_BYTES];

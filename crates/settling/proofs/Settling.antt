@@ -24,16 +24,16 @@ use Rattle.settling.proofs.Telling.{room-few}
 
 -- the text is shown where it is long enough
 module _ (asked : Bool) (file : List ℕ) (code place : ℕ) (answers text : List ℕ) where
-  pub shown-nothing : length text < 65536 → Prints (textOf asked file code place answers text) text 0 text
-  unfolding textOf textBytes
-  shown-nothing h = rw (lt-ltb (length text) 65536 h) (put-prints (put-nothing 0 text) (omega arith))
+  pub shown-nothing : length text < textBytes → Prints (textOf asked file code place answers text) text 0 text
+  unfolding textOf
+  shown-nothing h = rw (lt-ltb (length text) textBytes h) (put-prints (put-nothing 0 text) (omega arith))
 
-  pub shown : 65536 ≤ length text → (n : ℕ) (printed : List ℕ) → Prints (printedRun asked file code place answers) text n printed
+  pub shown : textBytes ≤ length text → (n : ℕ) (printed : List ℕ) → Prints (printedRun asked file code place answers) text n printed
       → Prints (textOf asked file code place answers text) text n printed
-  unfolding textOf textBytes
-  shown h n printed p = rw (le-ltb (length text) 65536 h) p
+  unfolding textOf
+  shown h n printed p = rw (le-ltb (length text) textBytes h) p
 
-pub printable : (file : List ℕ) (code : ℕ) (answers text : List ℕ) → Shows file code answers → 65536 ≤ length text → code ≡ 0 → Printable file answers text
+pub printable : (file : List ℕ) (code : ℕ) (answers text : List ℕ) → Shows file code answers → textBytes ≤ length text → code ≡ 0 → Printable file answers text
 printable file code answers text known long accepted =
     let within = known .within accepted in
     record { lines = within .0; room = omega (arith, known .few, within .1) }

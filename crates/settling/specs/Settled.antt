@@ -14,7 +14,7 @@ use Rattle.remains.specs.Dropped.{droppedOf}
 use Rattle.settling.specs.declared.Settlement.{Settlement}
 
 -- a text of so many bytes has room for what is printed of any file: 32 for each of 1,024 answers, and the file's questions
-unfoldable pub textBytes : ℕ
+abbrev pub textBytes : ℕ
 textBytes = 65536
 
 -- how many answers a text has room for: all that a file can ask for, or none where it is shorter than that

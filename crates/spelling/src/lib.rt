@@ -2,7 +2,7 @@
 // whether a text is a formula.
 ghost use mathlib.Core.Path.{_≡_};
 ghost use mathlib.Core.List.{[], _∷_};
-ghost use Prim.Native.Nat.{_+_, _≤_, _<_};
+ghost use Prim.Native.Nat.{_+_, _^_, _≤_, _<_};
 ghost use lib.ListN.{length, drop};
 ghost use Rattle.infon.specs.Bytes.{alike};
 ghost use Rattle.infon.specs.Formula.{isNameByte, isName, formulaOf};
@@ -192,7 +192,7 @@ pub fn node_at(text: &[u8], at: usize) -> Parsed
 // True and a name are one formula of those needed; an operator needs one more than it is; a quotation as many as before.
 fn gone_on(from: Cursor, node: Parsed) -> Onward
     requires { ⌜ (0 < from .needed) × (from .needed ≤ from .at + 1) ⌝ }
-    requires { ⌜ from .at + 2 < 18446744073709551616 ⌝ }
+    requires { ⌜ from .at + 2 < 2 ^ 64 ⌝ }
     ensures { λ r. ⌜ r ≡ goneOn from node ⌝ }
 {
     let at = from.at;

@@ -2,13 +2,11 @@
 use infon::Verdict;
 use spelling::Parsed;
 ghost use mathlib.Core.Path.{_≡_};
-ghost use Prim.Native.Nat.{_<_};
+ghost use Prim.Native.Nat.{_+_, _^_, _<_};
 ghost use lib.ListN.{length};
 ghost use Rattle.infon.specs.declared.Verdict.the-variants.{Passed};
 ghost use Rattle.infon.specs.Policy.{entriesOf, code2, code3};
 ghost use Rattle.walk.specs.Walking.{behindOwn, nextSpot};
-
-const MOST_NODES: usize = 1024;
 
 // Where a node begins, and where its line does.
 pub struct Spot {
@@ -18,7 +16,7 @@ pub struct Spot {
 
 // The place behind a node's own bytes: its letter, its name, or its letter with the principal.
 pub fn own_end(node: Parsed, at: usize) -> usize
-    requires { ⌜ at < 18446744073709551615 ⌝ }
+    requires { ⌜ at + 1 < 2 ^ 64 ⌝ }
     ensures { λ r. ⌜ r ≡ behindOwn at node ⌝ }
 {
     match node {
@@ -59,7 +57,7 @@ pub fn too_many(file: &[u8]) -> Verdict
     let mut line: usize = 0;
     let mut count: usize = 0;
     while at < file.len() {
-        if count == MOST_NODES {
+        if count == nodes::ROWS {
             return Verdict::Refused {
                 code: 3,
                 place: line,

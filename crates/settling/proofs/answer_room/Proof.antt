@@ -6,12 +6,12 @@ use Rattle.settling.proofs.answer_room.Statement.{statement}
 use Rattle.settling.proofs.answer_room.Tie as tie
 
 returns : tie.Need-returns
-unfolding answerRoom textBytes
-returns c = rw (le-ltb _ 65536 (c .if1 .taken))
+unfolding answerRoom
+returns c = rw (le-ltb _ textBytes (c .if1 .taken))
 
 returns-2 : tie.Need-returns-2
-unfolding answerRoom textBytes
-returns-2 c = rw (lt-ltb _ 65536 (c .if1 .left))
+unfolding answerRoom
+returns-2 c = rw (lt-ltb _ textBytes (c .if1 .left))
 
 pub answer-room-spec : {M : Type 1} → statement M
 answer-room-spec = tie.close (tie.spec returns returns-2)
