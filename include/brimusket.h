@@ -1,8 +1,8 @@
 /* Brimusket: which lien messages a registry may record, and whether its journal holds the reason.
  *
- * A call reads a policy file, keeps what is good of a journal, adds at most `limit` records and answers the file's queries.
- * Whatever the buffers hold, and whatever `used` and `limit` are, it gives an answer. It allocates nothing and keeps nothing
- * between calls; it uses less than 192 KiB of stack.
+ * A run reads a policy file, keeps what is good of a journal, adds at most `limit` records and answers the file's queries; a chain
+ * has the reasons behind a yes. Whatever the buffers hold, and whatever `used`, `limit` and `query` are, a call gives an answer.
+ * It allocates nothing and keeps nothing between calls; it uses less than 192 KiB of stack.
  *
  * BEFORE YOU ACT ON A YES, bring the first `used` bytes of the journal to safety: they hold the record that the yes rests on. The
  * first call has `used` 0; each later one has those bytes at the front of its journal buffer, and their number as `used`.
@@ -41,6 +41,13 @@ typedef struct brimusket_settlement {
     size_t length;  /* how many bytes of `text` are to be printed */
 } brimusket_settlement;
 
+/* What brimusket_chain returns. After a refusal: its code and place, and no records; `out` is byte for byte as it was. */
+typedef struct brimusket_chained {
+    size_t code;    /* 0, or the code of the refusal, 1 to 5, 7 or 31 to 33 */
+    size_t place;   /* where in the file the refused line starts; 0 where the code names no line */
+    size_t records; /* records of the chain */
+} brimusket_chained;
+
 /* Buffers of these lengths are long enough for every file; a file that is longer is refused with code 1. */
 enum {
     BRIMUSKET_FILE_BYTES = 32768,
@@ -70,8 +77,8 @@ enum {
     BRIMUSKET_MORE = 2
 };
 
-/* Each pointer has as many bytes behind it as its length says (a pointer with length 0 may be NULL), and the three buffers do not
- * overlap: this alone is the caller's to see to, for both functions.
+/* Each pointer has as many bytes behind it as its length says (a pointer with length 0 may be NULL), and no buffer that is written
+ * to overlaps another: this alone is the caller's to see to, for all three functions.
  *
  * There are as many answers as the file has lines that begin with Q, and they stand at the front of `answers`; the bytes behind
  * them, and the journal's behind the new used length, stay as they were. */
@@ -87,6 +94,17 @@ brimusket_settlement brimusket_settle(const uint8_t *file, size_t file_len,
                                       uint8_t *journal, size_t journal_len,
                                       size_t used, size_t limit, bool questions,
                                       uint8_t *text, size_t text_len);
+
+/* The reasons behind a yes, and only those: the records that a query rests on, in the journal's order, the query's own last. Every
+ * premise of one of them stands before it, and every one but the last is a premise of a later one. `query` counts the file's
+ * queries from 1. What a run would keep of the journal's first `used` bytes is looked at; nothing is run, and the journal may be
+ * shorter than a run needs it. The records go together to the front of `out`, whose other bytes stay; as many bytes as `used` are
+ * enough for every chain. They may be taken as a journal for the same file, with 9 * records as `used`: a run that is not refused
+ * keeps them all and answers the query with yes. */
+brimusket_chained brimusket_chain(const uint8_t *file, size_t file_len,
+                                  const uint8_t *journal, size_t journal_len,
+                                  size_t used, size_t query,
+                                  uint8_t *out, size_t out_len);
 
 #ifdef __cplusplus
 }

@@ -1,11 +1,11 @@
 //! The Markdown tables.
 
-use crate::timing::{Pair, Row, Time};
+use crate::timing::{Chain, Pair, Row, Time};
 use against::engine;
 use std::fmt::Write;
 
 pub fn markdown(rows: &[Row]) -> String {
-    whole_runs(rows) + &stages(rows) + &growth(rows)
+    whole_runs(rows) + &stages(rows) + &growth(rows) + &chains(rows)
 }
 
 /// Adds a row. Writing to a string cannot fail.
@@ -48,8 +48,11 @@ fn stages(rows: &[Row]) -> String {
     text
 }
 
+fn time(time: Time) -> String {
+    format!("{:.1} ±{:.1}", time.median, time.spread)
+}
+
 fn pair(pair: Pair) -> String {
-    let time = |time: Time| format!("{:.1} ±{:.1}", time.median, time.spread);
     format!(
         "{} | {} | {:.2}",
         time(pair.under_test),
@@ -90,4 +93,39 @@ fn growths(small: Pair, large: Pair) -> String {
         large.under_test.median / small.under_test.median,
         large.fast.median / small.fast.median
     )
+}
+
+/// The chain of a query beside the run from the finished journal. Nothing, where the
+/// engine under test gives no chains.
+fn chains(rows: &[Row]) -> String {
+    let timed: Vec<(&Row, Chain)> = rows
+        .iter()
+        .filter_map(|row| Some((row, row.chain?)))
+        .collect();
+    if timed.is_empty() {
+        return String::new();
+    }
+    let mut text = String::from(
+        "\nThe chain of a query: microseconds of the run from the finished journal and of the longest\n\
+         chain from the same journal, the records of both, and the chain's share of the run's time: of\n\
+         all, and of what is left when both have read and listed. Both take turns in one process and\n\
+         on the same buffers. Kinds without a recorded query have no chain.\n\n\
+         | file | nodes | L | from finished | chain | records of the journal | of the chain | share | of the rest |\n\
+         |---|--:|--:|--:|--:|--:|--:|--:|--:|\n",
+    );
+    for (row, chain) in timed {
+        let run = row.resumed.under_test;
+        let listed = row.reading.under_test.median + row.listing.under_test.median;
+        let rest = (chain.time.median - listed) / row.rest_resumed.under_test.median;
+        let cells = [
+            time(run),
+            time(chain.time),
+            chain.journal.to_string(),
+            chain.records.to_string(),
+            format!("{:.2}", chain.time.median / run.median),
+            format!("{rest:.2}"),
+        ];
+        add(&mut text, row, &cells);
+    }
+    text
 }

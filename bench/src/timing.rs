@@ -2,7 +2,8 @@
 //! so that a machine that slows down slows down all that is compared.
 
 use against::cases::sizes;
-use against::engine::under_test;
+use against::chains;
+use against::engine::{under_test, CHAIN};
 use against::journals::{finished, RECORD};
 use against::kinds::nodes;
 use second::{fast, Run};
@@ -38,8 +39,9 @@ impl Pair {
 }
 
 /// All that is measured on one file: whole runs from empty, from the finished
-/// journal and for one record; reading and listing; and the rest of the runs from
-/// empty and from the finished journal, which is the closure with its journal.
+/// journal and for one record; reading and listing; the rest of the runs from empty
+/// and from the finished journal, which is the closure with its journal; and the
+/// longest chain of a query, where one is recorded.
 pub struct Row {
     pub kind: &'static str,
     pub nodes: usize,
@@ -51,10 +53,36 @@ pub struct Row {
     pub listing: Pair,
     pub rest: Pair,
     pub rest_resumed: Pair,
+    pub chain: Option<Chain>,
 }
 
-/// What was measured once, in the order of a row's pairs.
+/// The time of the proved library's longest chain of a query from the finished
+/// journal, with the records of both.
+#[derive(Clone, Copy)]
+pub struct Chain {
+    pub time: Time,
+    pub journal: usize,
+    pub records: usize,
+}
+
+/// What one engine was measured once, in the order of a row's pairs.
 type Times = [Duration; 7];
+
+/// What was measured in one turn.
+struct Turn {
+    under_test: Times,
+    chain: Option<Duration>,
+    fast: Times,
+}
+
+/// A query that is recorded in the finished journal: the call for its chain, its
+/// count, and the records of its chain.
+#[derive(Clone, Copy)]
+struct Query {
+    call: chains::Call,
+    count: usize,
+    records: usize,
+}
 
 /// A file with its buffers and what its runs leave.
 struct Subject {
@@ -66,18 +94,24 @@ struct Subject {
     uncut: Vec<u8>,
     journal: Vec<u8>,
     answers: Vec<u8>,
+    /// The query with the longest chain, and a buffer for that.
+    query: Option<Query>,
+    chain: Vec<u8>,
 }
 
 impl Subject {
     fn new(file: Vec<u8>) -> Subject {
         let (listed, queries) = sizes(&file).expect("the file is accepted");
+        let uncut = finished(&file);
         Subject {
             nodes: nodes(&file),
             deep: [&file, DEEP_LINE].concat(),
             listed,
-            uncut: finished(&file),
             journal: vec![0; RECORD * listed],
             answers: vec![0; queries],
+            query: longest(&file, &uncut, queries),
+            chain: vec![0; RECORD * listed],
+            uncut,
             file,
         }
     }
@@ -101,28 +135,46 @@ impl Subject {
     }
 }
 
+/// The query of the file that has the longest chain, if any is recorded and the
+/// engine under test gives chains.
+fn longest(file: &[u8], uncut: &[u8], queries: usize) -> Option<Query> {
+    let call = CHAIN?;
+    let mut out = vec![0; uncut.len()];
+    let asked = (1..=queries).map(|count| Query {
+        call,
+        count,
+        records: call(file, uncut, uncut.len(), count, &mut out).records,
+    });
+    let recorded = asked.filter(|query| query.records > 0);
+    recorded.max_by_key(|query| query.records)
+}
+
 /// The rows of a kind's files.
 pub fn rows(kind: &'static str, files: impl Iterator<Item = Vec<u8>>) -> Vec<Row> {
     let mut subjects: Vec<Subject> = files.map(Subject::new).collect();
-    let mut taken: Vec<Vec<[Times; 2]>> = subjects.iter().map(|_| Vec::new()).collect();
+    let mut turns: Vec<Vec<Turn>> = subjects.iter().map(|_| Vec::new()).collect();
     let begun = Instant::now();
     for count in 0..MOST_REPETITIONS {
         if count >= LEAST_REPETITIONS && begun.elapsed() > BUDGET {
             break;
         }
-        for (subject, taken) in subjects.iter_mut().zip(&mut taken) {
-            taken.push([times_under_test(subject), times_of_sibling(subject)]);
+        for (subject, turns) in subjects.iter_mut().zip(&mut turns) {
+            turns.push(Turn {
+                under_test: times_under_test(subject),
+                chain: subject.query.map(|query| time_of_chain(query, subject)),
+                fast: times_of_sibling(subject),
+            });
         }
     }
-    let rows = subjects.iter().zip(&taken);
-    rows.map(|(subject, taken)| row(kind, subject, taken))
+    let rows = subjects.iter().zip(&turns);
+    rows.map(|(subject, turns)| row(kind, subject, turns))
         .collect()
 }
 
-fn row(kind: &'static str, subject: &Subject, taken: &[[Times; 2]]) -> Row {
+fn row(kind: &'static str, subject: &Subject, turns: &[Turn]) -> Row {
     let pair = |what: usize| Pair {
-        under_test: summary(taken.iter().map(|[times, _]| times[what])),
-        fast: summary(taken.iter().map(|[_, times]| times[what])),
+        under_test: summary(turns.iter().map(|turn| turn.under_test[what])),
+        fast: summary(turns.iter().map(|turn| turn.fast[what])),
     };
     Row {
         kind,
@@ -135,6 +187,11 @@ fn row(kind: &'static str, subject: &Subject, taken: &[[Times; 2]]) -> Row {
         listing: pair(4),
         rest: pair(5),
         rest_resumed: pair(6),
+        chain: subject.query.map(|query| Chain {
+            time: summary(turns.iter().filter_map(|turn| turn.chain)),
+            journal: subject.records(),
+            records: query.records,
+        }),
     }
 }
 
@@ -153,6 +210,23 @@ fn times_under_test(subject: &mut Subject) -> Times {
         from_empty.saturating_sub(listed),
         resumed.saturating_sub(listed),
     ]
+}
+
+/// The time of the chain of a query from the finished journal, in the buffers of the
+/// run from there.
+fn time_of_chain(query: Query, subject: &mut Subject) -> Duration {
+    subject.put_records(subject.records());
+    let begun = Instant::now();
+    let given = (query.call)(
+        black_box(&subject.file),
+        &subject.journal,
+        subject.uncut.len(),
+        query.count,
+        &mut subject.chain,
+    );
+    let taken = begun.elapsed();
+    assert_eq!(given.records, query.records);
+    taken
 }
 
 /// The fast sibling's stages are called for themselves.

@@ -2,7 +2,7 @@
 //! All `unsafe` blocks of this repository stand here, one for each function.
 #![allow(unsafe_code)]
 
-use crate::{Dropped, Report, Settlement};
+use crate::{Chained, Dropped, Report, Settlement};
 
 #[repr(C)]
 struct Settled {
@@ -35,6 +35,17 @@ extern "C" {
         text: *mut u8,
         text_len: usize,
     ) -> Settled;
+
+    fn brimusket_chain(
+        file: *const u8,
+        file_len: usize,
+        journal: *const u8,
+        journal_len: usize,
+        used: usize,
+        query: usize,
+        out: *mut u8,
+        out_len: usize,
+    ) -> Chained;
 }
 
 /// Keeps what is good of the journal's first `used` bytes, adds at most `limit`
@@ -110,5 +121,45 @@ pub fn settle(
             _ => Dropped::More,
         },
         length: settled.length,
+    }
+}
+
+/// The reasons behind a yes, and only those: the records that a query rests on, in
+/// the journal's order, the query's own last. They go together to the front of
+/// `out`, whose other bytes stay.
+///
+/// `query` counts the file's queries from 1. What a run would keep of the journal's
+/// first `used` bytes is looked at; nothing is run. A buffer of as many bytes as
+/// `used` has room for every chain.
+///
+/// ```
+/// let policy = b"H > S bank paid paid\nH S bank paid\nQ paid\nQ P bank paid\nQ S bank lien\n";
+/// let mut journal = vec![0; brimusket::JOURNAL_BYTES];
+/// let mut answers = [0; brimusket::QUERIES];
+/// let used = brimusket::run(policy, &mut journal, 0, brimusket::ALL, &mut answers).used;
+///
+/// // "P bank paid" rests on the second line of the file alone.
+/// let mut out = vec![0; used];
+/// let chained = brimusket::chain(policy, &journal, used, 2, &mut out);
+/// assert_eq!((chained.code, chained.records), (0, 2));
+/// assert_eq!(out[..18], journal[9..27]);
+///
+/// // "S bank lien" was answered no.
+/// assert_eq!(brimusket::chain(policy, &journal, used, 3, &mut out).code, 32);
+/// ```
+pub fn chain(file: &[u8], journal: &[u8], used: usize, query: usize, out: &mut [u8]) -> Chained {
+    // SAFETY: each pointer comes with the length of its own slice; `out` overlaps
+    // neither of the others, which are only read; the library keeps none of them.
+    unsafe {
+        brimusket_chain(
+            file.as_ptr(),
+            file.len(),
+            journal.as_ptr(),
+            journal.len(),
+            used,
+            query,
+            out.as_mut_ptr(),
+            out.len(),
+        )
     }
 }

@@ -4,9 +4,10 @@
 //! [`run`] is the call of the papers: it reads a policy file, keeps what is good
 //! of a journal, adds the next records and answers the file's queries, a byte
 //! each. [`settle`] makes the same run and gives the text to print in place of the
-//! bytes. Every slice, used length and limit gets an answer; a call that is
-//! refused changes neither journal nor answers. Neither allocates, keeps anything between calls, or
-//! needs more than 192 KiB of stack.
+//! bytes. [`chain`] gives the records that a yes rests on. Every slice, used length,
+//! limit and count gets an answer; a call that is refused changes neither the journal
+//! nor the answers nor what was lent for a chain. None of them allocates, keeps
+//! anything between calls, or needs more than 192 KiB of stack.
 //!
 //! **Before you act on a yes, bring the first `used` bytes of the journal to
 //! safety.** They hold the record that the yes rests on.
@@ -39,7 +40,7 @@
 
 mod boundary;
 
-pub use boundary::{run, settle};
+pub use boundary::{chain, run, settle};
 
 /// The longest policy file that is not refused with code 1.
 pub const FILE_BYTES: usize = 32_768;
@@ -80,6 +81,19 @@ pub struct Report {
     /// The journal's new used length, nine times the sum of kept and added. After
     /// code 7 it is what the caller gave, and larger than the buffer.
     pub used: usize,
+}
+
+/// What [`chain`] returns. After a refusal: its code and place, and no records; the
+/// lent buffer is as it was.
+#[repr(C)]
+#[derive(Clone, Copy, Debug, PartialEq, Eq)]
+pub struct Chained {
+    /// 0, or the code of the refusal: 1 to 5, 7 or 31 to 33.
+    pub code: usize,
+    /// Where in the file the refused line starts; 0 where the code names no line.
+    pub place: usize,
+    /// Records of the chain.
+    pub records: usize,
 }
 
 /// What a call did not keep of the journal that it was given.

@@ -1,10 +1,13 @@
 //! The independent second program.
 //!
-//! It is written from the scope paper (01) alone and shares nothing with the
-//! proved library. [`slow`] says 01 once more, word by word; [`fast`] gives the
-//! same answers in nearly linear time, for large files and as a measure of
-//! speed; [`desk`] is the desk program. The two engines share only [`Report`].
+//! It is written from the scope paper (01) and the change requests (02) alone
+//! and shares nothing with the proved library. [`slow`] says 01 once more, word
+//! by word; [`fast`] gives the same answers in nearly linear time, for large
+//! files and as a measure of speed; [`desk`] is the desk program; [`chain`]
+//! gives the reasons behind a yes (02, M-100). The two engines share only
+//! [`Report`].
 
+pub mod chain;
 pub mod desk;
 pub mod fast;
 pub mod slow;

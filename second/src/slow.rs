@@ -397,6 +397,12 @@ impl Policy {
         self.queries.len()
     }
 
+    /// The number on the list of the query with this count. "Queries count
+    /// from 1" (02, M-100); other counts are outside the file.
+    pub fn query(&self, count: usize) -> Option<usize> {
+        self.queries.get(count.checked_sub(1)?).copied()
+    }
+
     /// The table of eight ways.
     fn gives(&self, record: &Record) -> bool {
         let formula = record.formula;

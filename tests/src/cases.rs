@@ -19,18 +19,16 @@ pub fn sizes(file: &[u8]) -> Option<(usize, usize)> {
     Some((list.listed(), list.queries()))
 }
 
-/// An accepted made-up file, as the slow engine reads it, and its uncut journal.
+/// An accepted file, as the slow engine reads it, and its uncut journal.
 pub struct Accepted {
     pub file: Vec<u8>,
     pub policy: Policy,
     pub uncut: Vec<u8>,
 }
 
-/// Accepted made-up files without end; the same seed, the same files.
-pub fn accepted(seed: u64) -> impl Iterator<Item = Accepted> {
-    let mut rng = Rng::new(seed);
-    let files = iter::repeat_with(move || made_up::any(&mut rng));
-    files.filter_map(|file| {
+impl Accepted {
+    /// The file, if it is accepted.
+    pub fn new(file: Vec<u8>) -> Option<Accepted> {
         let policy = Policy::read(&file).ok()?;
         let uncut = journals::finished(&file);
         Some(Accepted {
@@ -38,7 +36,14 @@ pub fn accepted(seed: u64) -> impl Iterator<Item = Accepted> {
             policy,
             uncut,
         })
-    })
+    }
+}
+
+/// Accepted made-up files without end; the same seed, the same files.
+pub fn accepted(seed: u64) -> impl Iterator<Item = Accepted> {
+    let mut rng = Rng::new(seed);
+    let files = iter::repeat_with(move || made_up::any(&mut rng));
+    files.filter_map(Accepted::new)
 }
 
 /// A run from an empty journal to the end, in buffers just large enough and a

@@ -35,12 +35,12 @@ pub struct Outcome {
 const GUARD: usize = 64;
 
 /// A buffer inside guards with a pattern.
-struct Guarded {
+pub(crate) struct Guarded {
     bytes: Vec<u8>,
 }
 
 impl Guarded {
-    fn new(content: &[u8]) -> Guarded {
+    pub(crate) fn new(content: &[u8]) -> Guarded {
         let mut bytes: Vec<u8> = (0..GUARD).map(pattern).collect();
         bytes.extend(content);
         bytes.extend((0..GUARD).map(pattern));
@@ -51,16 +51,16 @@ impl Guarded {
         GUARD..self.bytes.len() - GUARD
     }
 
-    fn content(&self) -> &[u8] {
+    pub(crate) fn content(&self) -> &[u8] {
         &self.bytes[self.range()]
     }
 
-    fn content_mut(&mut self) -> &mut [u8] {
+    pub(crate) fn content_mut(&mut self) -> &mut [u8] {
         let range = self.range();
         &mut self.bytes[range]
     }
 
-    fn guards_stand(&self) -> bool {
+    pub(crate) fn guards_stand(&self) -> bool {
         let inside = self.range();
         let before = self.bytes[..inside.start].iter();
         let behind = self.bytes[inside.end..].iter();
@@ -137,17 +137,24 @@ fn difference(outcome: &Outcome, expected: &Outcome) -> String {
         ("journal", &outcome.journal, &expected.journal),
         ("answers", &outcome.answers, &expected.answers),
     ] {
-        if let Some(at) = (0..left.len()).find(|at| left[*at] != right[*at]) {
-            let whole = at / RECORD * RECORD;
-            let end = (whole + RECORD).min(left.len());
-            text += &format!(
-                "{what} differ at byte {at}: left {:02X?}, expected {:02X?}\n",
-                &left[whole..end],
-                &right[whole..end]
-            );
-        }
+        text += &differing(what, left, right);
     }
     text
+}
+
+/// Where two buffers of one length differ first, in words, with the nine bytes
+/// around; nothing where they are equal.
+pub(crate) fn differing(what: &str, left: &[u8], right: &[u8]) -> String {
+    let Some(at) = (0..left.len()).find(|at| left[*at] != right[*at]) else {
+        return String::new();
+    };
+    let whole = at / RECORD * RECORD;
+    let end = (whole + RECORD).min(left.len());
+    format!(
+        "{what} differ at byte {at}: left {:02X?}, expected {:02X?}\n",
+        &left[whole..end],
+        &right[whole..end]
+    )
 }
 
 // ---------------------------------------------------------------------------

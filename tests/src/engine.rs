@@ -1,12 +1,19 @@
 //! Which engine is under test: the one switch between the proved library and
 //! its stand-in.
 
+use crate::chains::Call;
 use second::{fast, slow, Run};
 
 #[cfg(feature = "proved")]
 pub use proved::{plain, run as under_test};
 #[cfg(not(feature = "proved"))]
 pub use second::fast::run as under_test;
+
+/// The call for a chain of the engine under test. The fast sibling has none.
+#[cfg(feature = "proved")]
+pub const CHAIN: Option<Call> = Some(proved::chain);
+#[cfg(not(feature = "proved"))]
+pub const CHAIN: Option<Call> = None;
 
 /// What the engine under test is called in what is printed.
 pub const NAME: &str = if cfg!(feature = "proved") {
@@ -37,6 +44,7 @@ pub fn reference(file: &[u8]) -> Run {
 
 #[cfg(feature = "proved")]
 mod proved {
+    use second::chain::Chain;
     use second::Report;
 
     /// A report of the proved library as one of the second program.
@@ -60,5 +68,15 @@ mod proved {
         answers: &mut [u8],
     ) -> Report {
         plain(brimusket::run(file, journal, used, limit, answers))
+    }
+
+    /// The proved library's chain.
+    pub fn chain(file: &[u8], journal: &[u8], used: usize, query: usize, out: &mut [u8]) -> Chain {
+        let chained = brimusket::chain(file, journal, used, query, out);
+        Chain {
+            code: chained.code,
+            place: chained.place,
+            records: chained.records,
+        }
     }
 }

@@ -51,6 +51,26 @@ pub fn any(rng: &mut Rng, policy: &Policy, uncut: &[u8]) -> Vec<u8> {
     journal
 }
 
+/// Journals from an uncut one that is not empty: an empty one, the uncut one cut at
+/// any byte, with two records exchanged, with a byte damaged, good records in any
+/// order, and the uncut one as it is.
+pub fn several(rng: &mut Rng, policy: &Policy, uncut: &[u8]) -> [Vec<u8>; 6] {
+    let records = uncut.len() / RECORD;
+    let mut exchanged = uncut.to_vec();
+    let (one, other) = (rng.below(records), rng.below(records));
+    exchange(&mut exchanged, RECORD * one, RECORD * other);
+    let mut damaged = uncut.to_vec();
+    damage_byte(rng, &mut damaged);
+    [
+        Vec::new(),
+        uncut[..rng.below(uncut.len())].to_vec(),
+        exchanged,
+        damaged,
+        wandering(rng, policy),
+        uncut.to_vec(),
+    ]
+}
+
 /// Does one wrong thing to a journal.
 pub fn spoil(rng: &mut Rng, journal: &mut Vec<u8>, listed: usize) {
     let records = journal.len() / RECORD;

@@ -110,8 +110,8 @@ fn check_used_far(checker: &mut Checker, policy: &Policy, file: &[u8], records: 
         .enumerate()
         .filter(|(count, _)| is_tested(*count));
     for (_, case) in tested {
-        checker.check_against(fast::run, &case);
-        let outcome = checker.check_read(policy, &case);
+        checker.check_against(fast::run, case);
+        let outcome = checker.check_read(policy, case);
         assert_eq!(outcome.report.kept, records);
         assert_eq!(outcome.report.used, uncut.len());
         let (left, behind) = outcome.journal.split_at(uncut.len());

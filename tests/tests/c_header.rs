@@ -38,6 +38,21 @@ fn the_second_desk_case_runs_through_the_header() {
     );
 }
 
+#[test]
+fn the_chain_of_a_query_is_had_through_the_header() {
+    assert_eq!(
+        printed("chain"),
+        "rule 1 for 0\n\
+         rule 1 for 1\n\
+         rule 7 for 3 from 1 and 0\n\
+         query 3: code 32, records 0, buffer as it was\n\
+         query 0: code 31, records 0, buffer as it was\n\
+         query 4: code 31, records 0, buffer as it was\n\
+         one byte short: code 33, records 0, buffer as it was\n\
+         no buffer: code 33, records 0, buffer as it was\n"
+    );
+}
+
 /// The header's constants, as it has them.
 fn constants() -> Vec<(String, usize)> {
     let header = fs::read_to_string(root().join("include/brimusket.h")).expect("the header");

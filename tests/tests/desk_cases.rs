@@ -3,16 +3,12 @@
 
 use against::cases::{from_empty, from_journal, sizes};
 use against::compare::{Checker, Outcome};
+use against::desk::{self, bytes, file, Record, NONE};
 use second::Report;
 
-/// No premise.
-const NONE: u16 = 0xFFFF;
 const NO: u8 = 0;
 const YES: u8 = 1;
 const OPEN: u8 = 2;
-
-/// A rule, a formula's number, a first and a second premise.
-type Record = (u8, u16, u16, u16);
 
 /// A file (a slash for each line feed, one more at the end), L, its uncut
 /// journal and its answers.
@@ -197,21 +193,6 @@ const TIES: [DeskCase; 5] = [
     ),
 ];
 
-fn file(spelling: &str) -> Vec<u8> {
-    (spelling.replace('/', "\n") + "\n").into_bytes()
-}
-
-fn bytes(records: &[Record]) -> Vec<u8> {
-    let mut bytes = Vec::new();
-    for (rule, formula, first, second) in records {
-        bytes.extend([0x4C, 0x51, *rule]);
-        bytes.extend(formula.to_be_bytes());
-        bytes.extend(first.to_be_bytes());
-        bytes.extend(second.to_be_bytes());
-    }
-    bytes
-}
-
 /// Checks that a run returned this, and left these journal bytes and answers
 /// with the buffers' filling behind them.
 fn assert_left(outcome: &Outcome, report: Report, journal: &[u8], answers: &[u8]) {
@@ -316,18 +297,7 @@ fn case_2_only_the_fourth() {
 
 #[test]
 fn case_12() {
-    let name = "a".repeat(16);
-    for (file, code, place) in [
-        ("Q S a S a S a S a b\n".to_string(), 0, 0),
-        ("H b\nQ S a P a S a S a S a b\n".to_string(), 4, 4),
-        (format!("Q {name}\n"), 0, 0),
-        (format!("Q {name}a\n"), 2, 0),
-        ("x".repeat(32_768), 2, 0),
-        ("Q b\n".repeat(8_192), 3, 4_096),
-        ("Q b\n".repeat(8_191) + "Q bb\n", 1, 0),
-        ("H b".to_string(), 2, 0),
-        ("H b\nQ  b\n".to_string(), 2, 4),
-    ] {
+    for (file, code, place) in desk::case_12() {
         let outcome = Checker::default().check(&from_empty(file.as_bytes()));
         assert_eq!((outcome.report.code, outcome.report.place), (code, place));
     }

@@ -1,6 +1,7 @@
 //! The examples in README.md and docs/CODES.md, run as a reader would run them.
 #![cfg(feature = "proved")]
 
+use against::journals;
 use against::workspace::{program, root};
 use std::fs;
 use std::io::Write;
@@ -21,6 +22,11 @@ fn printed(rest: &str) -> &str {
     let mut parts = rest.split('`');
     parts.next();
     parts.next().expect("what the example prints")
+}
+
+/// The file that a document shows with a sign for each line feed.
+fn file(policy: &str) -> String {
+    policy.replace("⏎\n", "\n").replace('⏎', "\n")
 }
 
 /// The commands of README.md that are followed by what they print.
@@ -94,8 +100,7 @@ fn the_files_shown_for_the_codes_are_refused_as_they_say() {
     let examples = blocks(&codes, "```policy");
     assert_eq!(examples.len(), 2);
     for (policy, rest) in examples {
-        let file = policy.replace("⏎\n", "\n").replace('⏎', "\n");
-        assert_eq!(desk(&file).trim_end(), printed(rest), "{policy}");
+        assert_eq!(desk(&file(policy)).trim_end(), printed(rest), "{policy}");
     }
 }
 
@@ -107,5 +112,38 @@ fn the_commands_shown_for_the_codes_are_refused_as_they_say() {
     for (command, rest) in examples {
         let refused = (Some(1), printed(rest).to_string());
         assert_eq!(shell(command, &root()), refused, "{command}");
+    }
+}
+
+/// What comes of a call for a chain that a document shows: a query's count, the
+/// journal's used length and the lent buffer's length.
+fn called(call: &str, file: &[u8], journal: &[u8]) -> String {
+    let numbers = call.split(|sign: char| !sign.is_ascii_digit());
+    let numbers: Vec<usize> = numbers.filter_map(|number| number.parse().ok()).collect();
+    let [query, used, out] = numbers[..] else {
+        panic!("three numbers in '{call}'");
+    };
+    let chained = brimusket::chain(file, journal, used, query, &mut vec![0; out]);
+    match chained.code {
+        0 => format!("{} records", chained.records),
+        code => format!("refused {code} {}", chained.place),
+    }
+}
+
+#[test]
+fn the_calls_shown_for_the_codes_of_a_chain_come_out_as_they_say() {
+    let codes = fs::read_to_string(root().join("docs/CODES.md")).expect("docs/CODES.md");
+    let [(policy, _)] = blocks(&codes, "```chained")[..] else {
+        panic!("one file");
+    };
+    let file = file(policy);
+    let journal = journals::finished(file.as_bytes());
+    assert_eq!(journal.len(), 36);
+    let calls = blocks(&codes, "```calls");
+    let calls: Vec<&str> = calls.iter().flat_map(|(calls, _)| calls.lines()).collect();
+    assert_eq!(calls.len(), 7);
+    for shown in calls {
+        let (call, expected) = shown.split_once(": ").expect("a call and what comes of it");
+        assert_eq!(called(call, file.as_bytes(), &journal), expected, "{call}");
     }
 }

@@ -13,29 +13,15 @@ use second::slow::Policy;
 /// A file, and how many formulas it lists.
 type Listing = (Vec<u8>, usize);
 
-/// Runs on the file: from an empty journal to the end and half the way, from the
-/// uncut journal as it is, cut at any byte, with two records exchanged and with a
-/// byte damaged, and from good records in any order.
+/// Runs on the file: from several journals to the end, and from an empty one half
+/// the way.
 fn runs(rng: &mut Rng, policy: &Policy, file: &[u8]) -> Vec<Case> {
     let uncut = journals::finished(file);
-    let records = uncut.len() / RECORD;
     let halfway = Case {
-        limit: records / 2,
+        limit: uncut.len() / RECORD / 2,
         ..from_empty(file)
     };
-    let mut exchanged = uncut.clone();
-    let (one, other) = (rng.below(records), rng.below(records));
-    journals::exchange(&mut exchanged, RECORD * one, RECORD * other);
-    let mut damaged = uncut.clone();
-    journals::damage_byte(rng, &mut damaged);
-    let journals = [
-        Vec::new(),
-        uncut[..rng.below(uncut.len())].to_vec(),
-        exchanged,
-        damaged,
-        journals::wandering(rng, policy),
-        uncut,
-    ];
+    let journals = journals::several(rng, policy, &uncut);
     let cases = journals.iter().map(|journal| from_journal(file, journal));
     cases.chain([halfway]).collect()
 }

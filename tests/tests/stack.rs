@@ -2,6 +2,7 @@
 //! has no more than the documents promise.
 #![cfg(feature = "proved")]
 
+use against::journals::{finished, RECORD};
 use against::made_up;
 use against::rng::Rng;
 use std::thread;
@@ -40,5 +41,17 @@ fn a_settled_call_fits_the_stack_that_is_promised() {
         let settled = brimusket::settle(file, &mut journal, 0, brimusket::ALL, true, &mut text);
         assert_eq!(settled.report.code, 0);
         assert!(settled.length > 0);
+    });
+}
+
+#[test]
+fn a_chain_fits_the_stack_that_is_promised() {
+    on_that_stack(|file| {
+        let journal = finished(file);
+        assert!(journal.len() > 400 * RECORD);
+        let mut out = vec![0; brimusket::JOURNAL_BYTES];
+        let chain = |query| brimusket::chain(file, &journal, journal.len(), query, &mut out);
+        let mut chains = (1..=brimusket::QUERIES).map(chain);
+        assert!(chains.any(|chained| chained.records > 3));
     });
 }

@@ -1,9 +1,12 @@
 // The C boundary, and nothing else: include/brimusket.h declares what stands here. Each slice is a pointer and a length, and what is
 // returned is laid out for C where it is declared.
+use infon::Chained;
 use infon::Report;
 use settling::Settlement;
 ghost use mathlib.Core.Path.{_≡_};
 ghost use Rattle.infon.specs.Run.{run as ranOn};
+ghost use Rattle.infon.specs.Chain.{chain as chainOf};
+ghost use Rattle.lending.specs.Lending.{lentAs};
 ghost use Rattle.working.specs.Working.{left};
 ghost use Rattle.settling.specs.Settled.{Settles};
 
@@ -36,4 +39,18 @@ pub extern "C" fn brimusket_settle(
         (now (journal .exit)) (now (text .exit)) ⌝ }
 {
     settling::settle(file, journal, used, limit, questions, text)
+}
+
+// The chain of a query, for C.
+#[no_mangle]
+pub extern "C" fn brimusket_chain(
+    file: &[u8],
+    journal: &[u8],
+    used: usize,
+    query: usize,
+    out: &mut [u8],
+) -> Chained
+    ensures { λ r. ⌜ lentAs r (now (out .exit)) ≡ chainOf (now (file .entry)) (now (journal .entry)) used query (now (out .entry)) ⌝ }
+{
+    chain::chain(file, journal, used, query, out)
 }

@@ -51,7 +51,7 @@ pub fn form_number(nodes: &[u16], cand: &[u16], j: usize, m: usize) -> u16
 }
 
 // The kind of formula i: that of its base.
-fn kind_of(nodes: &[u16], owners: &[u32], i: usize) -> u16
+fn kind_of(nodes: &[u16], owners: &[u16], i: usize) -> u16
     requires { ⌜ (i < length (now owners)) × IsOwner (now nodes) (now owners) i ⌝ }
     ensures { λ r. ⌜ r ≡ kindColumn (now (nodes .entry)) (now (owners .entry)) i ⌝ }
 {
@@ -60,7 +60,7 @@ fn kind_of(nodes: &[u16], owners: &[u32], i: usize) -> u16
 }
 
 // The put places of formula i, which its key ends with.
-fn puts_of(keys: &[u32], i: usize) -> u16
+fn puts_of(keys: &[u16], i: usize) -> u16
     requires { ⌜ i < length (now keys) ⌝ }
     ensures { λ r. ⌜ r ≡ putColumn (now (keys .entry)) i ⌝ }
 {
@@ -69,7 +69,7 @@ fn puts_of(keys: &[u32], i: usize) -> u16
 }
 
 // The number of the left part of formula i, none where it has no parts.
-fn left_of(nodes: &[u16], cand: &[u16], owners: &[u32], i: usize) -> u16
+fn left_of(nodes: &[u16], cand: &[u16], owners: &[u16], i: usize) -> u16
     requires { ⌜ Owner (now nodes) (now cand) (now owners) i ⌝ }
     ensures { λ r. ⌜ r ≡ leftColumn (now (nodes .entry)) (now (cand .entry)) (now (owners .entry)) i ⌝ }
 {
@@ -82,7 +82,7 @@ fn left_of(nodes: &[u16], cand: &[u16], owners: &[u32], i: usize) -> u16
 }
 
 // The number of the right part of formula i: it begins behind the left part's last node.
-fn right_of(nodes: &[u16], cand: &[u16], owners: &[u32], i: usize) -> u16
+fn right_of(nodes: &[u16], cand: &[u16], owners: &[u16], i: usize) -> u16
     requires { ⌜ Owner (now nodes) (now cand) (now owners) i ⌝ }
     ensures { λ r. ⌜ r ≡ rightColumn (now (nodes .entry)) (now (cand .entry)) (now (owners .entry)) i ⌝ }
 {
@@ -97,7 +97,7 @@ fn right_of(nodes: &[u16], cand: &[u16], owners: &[u32], i: usize) -> u16
 }
 
 // The number of the form of formula i that has put at every place: the last of its node's forms.
-fn bottom_of(nodes: &[u16], cand: &[u16], owners: &[u32], i: usize) -> u16
+fn bottom_of(nodes: &[u16], cand: &[u16], owners: &[u16], i: usize) -> u16
     requires { ⌜ Owner (now nodes) (now cand) (now owners) i ⌝ }
     ensures { λ r. ⌜ r ≡ bottomColumn (now (nodes .entry)) (now (cand .entry)) (now (owners .entry)) i ⌝ }
 {
@@ -107,7 +107,7 @@ fn bottom_of(nodes: &[u16], cand: &[u16], owners: &[u32], i: usize) -> u16
 }
 
 // The node of the base of formula i.
-fn base_of(owners: &[u32], i: usize) -> u16
+fn base_of(owners: &[u16], i: usize) -> u16
     requires { ⌜ (i < length (now owners)) × (getD (now owners) i 0 < nodeRows * stride) ⌝ }
     ensures { λ r. ⌜ r ≡ baseColumn (now (owners .entry)) i ⌝ }
 {
@@ -119,8 +119,8 @@ fn base_of(owners: &[u32], i: usize) -> u16
 fn cell_of(
     nodes: &[u16],
     cand: &[u16],
-    keys: &[u32],
-    owners: &[u32],
+    keys: &[u16],
+    owners: &[u16],
     column: usize,
     i: usize,
 ) -> u16
@@ -142,8 +142,8 @@ fn cell_of(
 fn fill_column(
     nodes: &[u16],
     cand: &[u16],
-    keys: &[u32],
-    owners: &[u32],
+    keys: &[u16],
+    owners: &[u16],
     n: usize,
     column: usize,
     table: &mut [u16],
@@ -163,8 +163,8 @@ fn fill_column(
 pub fn fill_columns(
     nodes: &[u16],
     cand: &[u16],
-    keys: &[u32],
-    owners: &[u32],
+    keys: &[u16],
+    owners: &[u16],
     n: usize,
     table: &mut [u16],
 )

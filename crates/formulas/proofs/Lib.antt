@@ -2,3 +2,4 @@ pub mod Numbers
 pub mod Weakened
 pub mod Given
 pub mod Growing
+pub mod OnRecord

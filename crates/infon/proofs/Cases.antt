@@ -1,4 +1,5 @@
--- 01, "From the desk, on both sides": the starred cases as one table. A row that is wrong is refused at its own place.
+-- 01, "From the desk, on both sides": the starred cases as one table, and 02's chain on the second. A row that is wrong is refused at
+-- its own place.
 -- Assumes nothing.
 use Prim.Native.Nat.{ℕ, zero, suc, _+_, _/_, _%_, _^_}
 use Prim.Native.String.{String}
@@ -17,19 +18,33 @@ use Rattle.infon.specs.Listing
 use Rattle.infon.specs.Rules
 use Rattle.infon.specs.Journal
 use Rattle.infon.specs.Run
+use Rattle.infon.specs.Reasons
+use Rattle.infon.specs.Chain
 use Rattle.infon.specs.Run.{Outcome}
 
 -- A row of the table. `asked`: run from an empty journal to the end, the file's queries get these answers. `listed`: the file's
 -- list is spelled so. `run-on`: over these journal bytes a run to the end keeps and adds so many records and leaves these bytes.
 -- `stopped`: over these journal bytes a run with this limit keeps and adds so many records, leaves these bytes, is not finished, and
 -- gives the file's queries these answers. `refuses`: a journal buffer of so many bytes and this used length get this code, at place
--- 0, and both buffers stay as they were.
+-- 0, and both buffers stay as they were. `rests-on`: over these journal bytes the query with this count gets this chain in a lent
+-- buffer of so many bytes; `has-none`: it gets this code, at place 0, and the buffer stays as it was.
 pub data Row : Type 0 where
   asked : String → List Answer → Row
   listed : String → List String → Row
   run-on : String → List ℕ → ℕ → ℕ → List ℕ → Row
   stopped : String → List ℕ → ℕ → ℕ → ℕ → List ℕ → List Answer → Row
   refuses : String → ℕ → ℕ → ℕ → Row
+  rests-on : String → List ℕ → ℕ → ℕ → List ℕ → Row
+  has-none : String → List ℕ → ℕ → ℕ → ℕ → Row
+
+-- the bytes of a number, the highest first
+unfoldable pub highFirst : ℕ → ℕ → List ℕ
+highFirst zero n = []
+highFirst (suc k) n = n / 256 ^ k % 256 ∷ highFirst k n
+
+unfoldable pub rows : List ℕ → List ℕ
+rows [] = []
+rows (n ∷ rest) = highFirst 9 n ++ rows rest
 
 -- Both buffers are longer than what stands in them; the bytes behind are none that these records and answers have.
 unfoldable pub filled : ℕ → List ℕ → List ℕ
@@ -40,7 +55,7 @@ unfoldable pub enough : ℕ
 enough = 20
 
 unfoldable pub outcome : String → List ℕ → Outcome
-unfolding Bytes.bytes Bytes.lineFeed Bytes.space Bytes.alike Bytes.every Bytes.someOf Bytes.firstOf Formula.isNameByte Formula.isName Formula.isNamed Formula.letterOf Formula.words Formula.joined Formula.spelling Formula.onto Formula.tokens Formula.joinTwo Formula.quote Formula.takeWord Formula.takeNext Formula.readWords Formula.onlyOne Formula.formulaOf Formula.sameTold Formula.sameQuotation Formula.same Formula.nodes Formula.depth Policy.cut Policy.placed Policy.linesOf Policy.says Policy.inFront Policy.beforeFeed Policy.read Policy.sentenceOf Policy.isSome Policy.isWellFormed Policy.withEntry Policy.entriesFrom Policy.entriesOf Policy.formulaIn Policy.hypothesesOf Policy.queriesOf Codes.when Codes.andThen Codes.tried Codes.settled Policy.code1 Policy.code2From Policy.code2 Policy.mostNodes Policy.code3From Policy.code3 Policy.mostDepth Policy.code4 Listing.wrap Listing.weakerTold Listing.inside Listing.insideEach Listing.weakerPrefixes Listing.weakened Listing.weakenedBases Listing.isListed Listing.enlist Listing.listFrom Listing.listOf Listing.mostListed Listing.code5From Listing.code5 Rules.shapeUnder Rules.shapeOf Rules.prefixUnder Rules.coreOf Rules.weakenings Rules.isTruth Rules.isLeft Rules.isRight Rules.areBoth Rules.isConclusion Rules.isCondition Rules.numbered Rules.gives Journal.isRecorded Journal.premisesIn Journal.isGood Journal.noPremise Journal.ruleOf Journal.firstPremise Journal.secondPremise Journal.twoBytes Journal.spelled Journal.spelledAll Journal.alone Journal.withOne Journal.wayOf Journal.recordFor Journal.numberAt Journal.decoded Journal.wholeRecords Journal.followed Journal.onlyGood Journal.keptAfter Journal.keptOf Journal.numbersFrom Journal.eachPair Journal.allWays Journal.recordsFor Journal.allRecords Journal.next Journal.hasNone Journal.isFinished Journal.grown Run.answerByte Run.answerOf Run.isOnRecord Run.answersOf Run.fileCodes Run.code6 Run.code7 Run.code8 Run.code9 Run.refusal Run.written Run.success Run.run
+unfolding Bytes.bytes Bytes.lineFeed Bytes.space Bytes.alike Bytes.every Bytes.someOf Bytes.firstOf Formula.isNameByte Formula.isName Formula.isNamed Formula.letterOf Formula.words Formula.joined Formula.spelling Formula.onto Formula.tokens Formula.joinTwo Formula.quote Formula.takeWord Formula.takeNext Formula.readWords Formula.onlyOne Formula.formulaOf Formula.sameTold Formula.sameQuotation Formula.same Formula.nodes Formula.depth Policy.cut Policy.placed Policy.linesOf Policy.says Policy.inFront Policy.beforeFeed Policy.read Policy.sentenceOf Policy.isSome Policy.isWellFormed Policy.withEntry Policy.entriesFrom Policy.entriesOf Policy.formulaIn Policy.hypothesesOf Policy.queriesOf Codes.when Codes.andThen Codes.tried Codes.settled Policy.code1 Policy.code2From Policy.code2 Policy.mostNodes Policy.code3From Policy.code3 Policy.mostDepth Policy.code4 Listing.wrap Listing.weakerTold Listing.inside Listing.insideEach Listing.weakerPrefixes Listing.weakened Listing.weakenedBases Listing.isListed Listing.enlist Listing.listFrom Listing.listOf Listing.mostListed Listing.code5From Listing.code5 Rules.shapeUnder Rules.shapeOf Rules.prefixUnder Rules.coreOf Rules.weakenings Rules.isTruth Rules.isLeft Rules.isRight Rules.areBoth Rules.isConclusion Rules.isCondition Rules.numbered Rules.gives Journal.isRecorded Journal.premisesIn Journal.isGood Journal.noPremise Journal.ruleOf Journal.firstPremise Journal.secondPremise Journal.twoBytes Journal.spelled Journal.spelledAll Journal.alone Journal.withOne Journal.wayOf Journal.recordFor Journal.numberAt Journal.decoded Journal.wholeRecords Journal.followed Journal.onlyGood Journal.keptAfter Journal.keptOf Journal.numbersFrom Journal.eachPair Journal.allWays Journal.recordsFor Journal.allRecords Journal.next Journal.hasNone Journal.isFinished Journal.grown Run.answerByte Run.answerOf Run.isOnRecord Run.answersOf Run.fileCodes Run.code6 Run.code7 Run.code8 Run.code9 Run.refusal Run.written Run.success Run.run Reasons.isPremise Reasons.isUsed Reasons.reasons Chain.queryOf Chain.code31 Chain.code32 Chain.code33 Chain.chainRefusal Chain.lent Chain.chain
 outcome file used = Run.run (Bytes.bytes file) (filled 72 used) (length used) enough (filled 5 [])
 
 unfoldable pub reported : Bool → ℕ → ℕ → List ℕ → Report
@@ -62,19 +77,16 @@ Holds (refuses file size used code) =
       journal = filled size [];
       answers = filled 5 [];
     }
+Holds (rests-on file used count size row) =
+    Chain.chain (Bytes.bytes file) (filled 72 used) (length used) count (filled size [])
+    ≡ record { told = record { code = 0; place = 0; records = length row }; out = filled size (rows row) }
+Holds (has-none file used count size code) =
+    Chain.chain (Bytes.bytes file) (filled 72 used) (length used) count (filled size [])
+    ≡ record { told = record { code = code; place = 0; records = 0 }; out = filled size [] }
 
 abbrev pub Each : List Row → Type 0
 Each [] = Unit {0}
 Each (row ∷ rest) = Holds row × Each rest
-
--- the bytes of a number, the highest first
-unfoldable pub highFirst : ℕ → ℕ → List ℕ
-highFirst zero n = []
-highFirst (suc k) n = n / 256 ^ k % 256 ∷ highFirst k n
-
-unfoldable pub rows : List ℕ → List ℕ
-rows [] = []
-rows (n ∷ rest) = highFirst 9 n ++ rows rest
 
 -- Case 2 and its four records, as 01 prints them.
 abbrev pub case2 : String
@@ -141,7 +153,17 @@ table =
     -- 2: a buffer of 53 bytes is shorter than 9 × 6 and than the used length: the earlier code is given
     (refuses case2 53 54 6 ∷
     -- the outermost place weighs most
-    (listed "Q S a S b c\n" ("S a S b c" ∷ ("S a P b c" ∷ ("P a S b c" ∷ ("P a P b c" ∷ [])))) ∷ []))))))))))))))))))))))))
+    (listed "Q S a S b c\n" ("S a S b c" ∷ ("S a P b c" ∷ ("P a S b c" ∷ ("P a P b c" ∷ [])))) ∷
+    -- 2: what each yes rests on, in the journal's order
+    (rests-on case2 whole 1 27 (r1 ∷ (r2 ∷ (r4 ∷ []))) ∷
+    (rests-on case2 whole 2 40 (r2 ∷ (r3 ∷ [])) ∷
+    (rests-on case2 exchanged 1 40 (r2 ∷ (r1 ∷ (r4 ∷ []))) ∷
+    -- 2: there are queries 1 to 3, the third is not recorded, and the first is not before its record stands; 26 bytes are too few
+    (has-none case2 whole 0 40 31 ∷
+    (has-none case2 whole 4 40 31 ∷
+    (has-none case2 whole 3 40 32 ∷
+    (has-none case2 (take 35 whole) 1 40 32 ∷
+    (has-none case2 whole 1 26 33 ∷ []))))))))))))))))))))))))))))))))
 
 pub every-row : Each table
 unfolding table outcome filled enough reported rows highFirst whole exchanged Run.answerByte
@@ -181,7 +203,7 @@ every-row = (
                                   (refl, refl),
                                   (
                                     (refl, refl),
-                                    ((refl, refl), ((refl, refl), ((refl, refl), (refl, (refl, (refl, (refl, tt))))))),
+                                    ((refl, refl), ((refl, refl), ((refl, refl), (refl, (refl, (refl, (refl, (refl, (refl, (refl, (refl, (refl, (refl, (refl, (refl, tt))))))))))))))),
                                   ),
                                 ),
                               ),

@@ -97,6 +97,11 @@ drop-take zero n s = rw zero-add
 drop-take (suc m) n [] = rw suc-add (sym (take-nil n))
 drop-take (suc m) n (b ∷ s) = rw suc-add (drop-take m n s)
 
+pub length-wholeRecords : (n : ℕ) (s : List ℕ) → length (wholeRecords n s) ≡ n
+unfolding wholeRecords
+length-wholeRecords zero s = refl
+length-wholeRecords (suc n) s = ap suc (length-wholeRecords n (drop recordBytes s))
+
 -- the first n records are in the first 9 n bytes
 pub wholeRecords-take : (n : ℕ) (s : List ℕ) → wholeRecords n (take (recordBytes * n) s) ≡ wholeRecords n s
 unfolding wholeRecords

@@ -128,7 +128,7 @@ whole-within used size h = omega arith
 one-not-zero : _≡_ {A = ℕ} 1 0 → ⊥
 one-not-zero e = omega arith
 
-nine-times : (n : ℕ) → recordBytes * n / recordBytes ≡ n
+pub nine-times : (n : ℕ) → recordBytes * n / recordBytes ≡ n
 nine-times n = omega arith
 
 module _ (file journal : List ℕ) (used limit : ℕ) (answers : List ℕ) (accepted : run file journal used limit answers .report .code ≡ 0) where
@@ -211,6 +211,11 @@ module _ (file journal : List ℕ) (used limit : ℕ) (answers : List ℕ) (acce
   yes-recorded-only i low answer =
       yes-recorded (isOnRecord (listIn file) (recordsLeft file journal used limit) (queryAt file i))
       (run file journal used limit answers .report .finished) (sym (answer-is i low) ∙ answer)
+
+  -- .. and there it is said, ..
+  pub recorded-answered : (i : ℕ) → i < length (queriesIn file) → isOnRecord (listIn file) (recordsLeft file journal used limit) (queryAt file i) ≡ true
+      → getD (run file journal used limit answers .answers) i 0 ≡ 1
+  recorded-answered i low on = answer-is i low ∙ recorded-yes (run file journal used limit answers .report .finished) on
 
   -- ".. the rest is open."
   pub rest-open : run file journal used limit answers .report .finished ≡ false → (i : ℕ) → i < length (queriesIn file)

@@ -21,7 +21,7 @@ use Rattle.infon.specs.Formula.{Formula}
 use Rattle.infon.specs.Rules.{gives, numbered}
 use Rattle.infon.specs.Journal.{recordBytes, isRecorded, premisesIn, isGood, noPremise, firstPremise, secondPremise, spelled, spelledAll, decoded, wholeRecords, followed, onlyGood, keptAfter, next, hasNone, isFinished, grown, allRecords}
 use Rattle.infon.proofs.Rows.{and-true, someOf-witness}
-use Rattle.infon.proofs.Codec.{cond-cases, AreBytes, Small, decoded-spelled-each, spelledAll-decoded, wholeRecords-spelledAll}
+use Rattle.infon.proofs.Codec.{cond-cases, AreBytes, Small, decoded-spelled-each, spelledAll-decoded, length-wholeRecords, wholeRecords-spelledAll}
 
 -- Each of the records is good after `done` and those before it.
 pub data GoodRow (hyps fs : List Formula) : List Record → List Record → Type 0 where
@@ -152,7 +152,7 @@ module _ (hyps fs : List Formula) where
   pub grown-good : (done : List Record) (n : ℕ) → GoodRow hyps fs done (grown hyps fs done n)
   grown-good done n = growth-good done n (grown hyps fs done n) (grown-growth done n)
 
-  good-first : (done : List Record) (r : Record) (rest : List Record) → GoodRow hyps fs done (r ∷ rest)
+  pub good-first : (done : List Record) (r : Record) (rest : List Record) → GoodRow hyps fs done (r ∷ rest)
       → (isGood hyps fs done r ≡ true) × GoodRow hyps fs (done ++ (r ∷ [])) rest
   good-first done r rest (more d q later h row) = (h, row)
 
@@ -178,6 +178,18 @@ module _ (hyps fs : List Formula) where
   keeping-decoded done cs xs (broken _ s rest e) = refl
   keeping-decoded done cs xs (held _ s rest r ys e later) =
       rw (onlyGood-some done (decoded s) r e .0, keeping-decoded (done ++ (r ∷ [])) rest ys later)
+
+  keeping-short : (done : List Record) (cs : List (List ℕ)) (xs : List Record) → Keeping hyps fs done cs xs → length xs ≤ length cs
+  keeping-short done cs xs (through _) = omega arith
+  keeping-short done cs xs (broken _ s rest e) = omega arith
+  keeping-short done cs xs (held _ s rest r ys e later) = suc-le-suc (keeping-short (done ++ (r ∷ [])) rest ys later)
+
+  -- no more is kept than there are rows
+  pub kept-short : (done : List Record) (n : ℕ) (s : List ℕ) → length (keptAfter hyps fs done (wholeRecords n s)) ≤ n
+  kept-short done n s =
+      let short = keeping-short done (wholeRecords n s) (keptAfter hyps fs done (wholeRecords n s)) (kept-keeping done (wholeRecords n s)) in
+      let rows = length-wholeRecords n s in
+      omega arith
 
   -- what is kept is what the rows of bytes spell
   pub kept-decoded : (done : List Record) (cs : List (List ℕ))

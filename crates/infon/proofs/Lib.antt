@@ -20,4 +20,6 @@ pub mod Cuts
 pub mod Sound
 pub mod Finished
 pub mod Missing
+pub mod Reasons
 pub mod Demands
+pub mod Chain

@@ -9,7 +9,7 @@ use mathlib.Core.Bool.{Bool, true, false, not}
 use mathlib.Core.List.{List, [], _∷_, _++_}
 use lib.ListN.{length, length-append}
 use lib.Dec.{ltb}
-use borrow.Author.Tests.{ltb-true, ltb-false, lt-ltb}
+use borrow.Author.Tests.{ltb-true, ltb-false, lt-ltb, le-ltb}
 use Rattle.infon.specs.declared.Record.{Record}
 use Rattle.infon.specs.declared.Verdict.{Verdict}
 use Rattle.infon.specs.declared.Verdict.the-variants.{Passed, Refused}
@@ -22,7 +22,7 @@ use Rattle.infon.specs.Run.{fileCodes, fileVerdict, code6, code7, code8,
 use Rattle.infon.specs.Board.{nodesIn, isShallow, FileTooLong, file-too-long, LineNotWellFormed, line-not-well-formed, TooManyNodes, too-many-nodes, TooDeep, too-deep, TooManyListed, too-many-listed, JournalTooShort, journal-too-short, UsedTooLong, used-too-long, AnswersTooShort, answers-too-short, NoRoom, no-room, fileRow, runRow}
 use Rattle.infon.proofs.Rows.{decided}
 use Rattle.infon.proofs.Listed.{enlist-begins, listFrom-append}
-use Rattle.infon.proofs.Tried.{when-true, when-false, when-passed, andThen-passed, tried-append, scanned, FirstBad, scanned-says, gone, counted, FirstOver, counted-says, Says, Speaks, silent, speaks, speaks-append, given-or-none, none-given, first-numbered, refuses, passes}
+use Rattle.infon.proofs.Tried.{when-true, when-false, pass-on, when-passed, andThen-passed, tried-append, scanned, FirstBad, scanned-says, gone, counted, FirstOver, counted-says, Says, Speaks, silent, speaks, speaks-append, given-or-none, none-given, given-none, first-numbered, refuses, passes}
 
 -- ---- The verdicts of the codes, as searches through a row
 
@@ -174,21 +174,33 @@ module _ (file : List ℕ) where
 
 -- ---- The codes of a call
 
-not-less : (a b code : ℕ) → when (ltb a b) code 0 ≡ Passed → b ≤ a
+pub not-less : (a b code : ℕ) → when (ltb a b) code 0 ≡ Passed → b ≤ a
 not-less a b code h = ltb-false a b (when-passed (ltb a b) code 0 h)
 
--- a code whose test is that one number is below another, at place 0
-compares : (c : Code) (a b : ℕ) → ((place : ℕ) → c .rule place → (place ≡ 0) × (a < b)) → (a < b → c .rule 0) → Says c (when (ltb a b) (c .number) 0)
-compares c a b less rule =
+-- a code by its test, at place 0
+not-tried : (a b code : ℕ) → b ≤ a → when (ltb a b) code 0 ≡ Passed
+not-tried a b code h = when-false (ltb a b) code 0 (le-ltb a b h)
+
+pub tests : (c : Code) (b : Bool) → ((place : ℕ) → c .rule place → (place ≡ 0) × (b ≡ true)) → (b ≡ true → c .rule 0) → Says c (when b (c .number) 0)
+tests c b holds rule =
     record {
-      given =
-          λ place h.
-          when-true (ltb a b) (c .number) 0 (lt-ltb a b (less place h .1)) ∙ ap (Refused (c .number)) (sym (less place h .0));
+      given = λ place h. when-true b (c .number) 0 (holds place h .1) ∙ ap (Refused (c .number)) (sym (holds place h .0));
       either =
-          ⊎-elim (λ (h : ltb a b ≡ true). inr (0, (when-true (ltb a b) (c .number) 0 h, rule (ltb-true a b h))))
-          (λ (h : ltb a b ≡ false). inl (when-false (ltb a b) (c .number) 0 h))
-          (decided (ltb a b));
+          ⊎-elim (λ (h : b ≡ true). inr (0, (when-true b (c .number) 0 h, rule h))) (λ (h : b ≡ false). inl (when-false b (c .number) 0 h))
+          (decided b);
     }
+
+-- a code whose test is that one number is below another
+pub compares : (c : Code) (a b : ℕ) → ((place : ℕ) → c .rule place → (place ≡ 0) × (a < b)) → (a < b → c .rule 0) → Says c (when (ltb a b) (c .number) 0)
+compares c a b less rule =
+    tests c (ltb a b) (λ place h. (less place h .0, lt-ltb a b (less place h .1))) (λ h. rule (ltb-true a b h))
+
+pub says7 : (journal : List ℕ) (used : ℕ) → Says (record { number = 7; rule = UsedTooLong journal used }) (code7 journal used)
+unfolding code7
+says7 journal used = compares _ (length journal) used (λ place h. inside h) (λ h. used-too-long h)
+  where
+    inside : {place : ℕ} → UsedTooLong journal used place → (place ≡ 0) × (length journal < used)
+    inside (used-too-long h) = (refl, h)
 
 module _ (file : List ℕ) where
   says1 : Says (record { number = 1; rule = FileTooLong file }) (code1 file)
@@ -272,13 +284,6 @@ module _ (file journal : List ℕ) (used limit : ℕ) (answers : List ℕ) where
       inside : {place : ℕ} → JournalTooShort file journal place → (place ≡ 0) × (length journal < recordBytes * length (listOf (entriesOf file)))
       inside (journal-too-short h) = (refl, h)
 
-  says7 : Says (record { number = 7; rule = UsedTooLong journal used }) (code7 journal used)
-  unfolding code7
-  says7 = compares _ (length journal) used (λ place h. inside h) (λ h. used-too-long h)
-    where
-      inside : {place : ℕ} → UsedTooLong journal used place → (place ≡ 0) × (length journal < used)
-      inside (used-too-long h) = (refl, h)
-
   says8 : Says (record { number = 8; rule = AnswersTooShort file answers }) (code8 (queriesOf (entriesOf file)) answers)
   unfolding code8
   says8 = compares _ (length answers) (length (queriesOf (entriesOf file))) (λ place h. inside h) (λ h. answers-too-short h)
@@ -304,7 +309,7 @@ module _ (file journal : List ℕ) (used limit : ℕ) (answers : List ℕ) where
   run-speaks =
       speaks-append (file-speaks file)
       (speaks _ _ _ _ says6 (omega arith)
-      (speaks _ _ _ _ says7 (omega arith) (speaks _ _ _ _ says8 (omega arith) (speaks _ _ _ _ says9 (omega arith) silent))))
+      (speaks _ _ _ _ (says7 journal used) (omega arith) (speaks _ _ _ _ says8 (omega arith) (speaks _ _ _ _ says9 (omega arith) silent))))
 
   -- what a run does where no code is given
   abbrev outcome : Outcome
@@ -382,6 +387,18 @@ module _ (file journal : List ℕ) (used limit : ℕ) (answers : List ℕ) where
         answers-long = not-less (length answers) (length (queriesOf entries)) 8 (behind8 .0);
         room = not-less (length journal) (recordBytes * (length kept + length added)) 9 (last .0);
       }
+
+  pub lets-pass-none : LetsPass → None (runRow file journal used limit answers)
+  unfolding fileVerdict tried code6 code7 code8 code9
+  lets-pass-none lets =
+      let entries = entriesOf file in
+      given-none run-speaks
+      (tried-append (fileCodes file) _
+      ∙ (pass-on (lets .accepted) _
+      ∙ (pass-on (not-tried (length journal) (recordBytes * length (listOf entries)) 6 (lets .journal-long)) _
+      ∙ (pass-on (not-tried (length journal) used 7 (lets .used-inside)) _
+      ∙ (pass-on (not-tried (length answers) (length (queriesOf entries)) 8 (lets .answers-long)) _
+      ∙ pass-on (not-tried (length journal) (recordBytes * (length kept + length added)) 9 (lets .room)) _)))))
 
   pub lets-pass : run file journal used limit answers .report .code ≡ 0 → LetsPass
   lets-pass zero-code = none-lets-pass (accepted-none zero-code)

@@ -1,4 +1,4 @@
--- 01, "Codes on the board": the rule of each code, in the table's words, and the rows of codes that are tried. A rule says of a
+-- 01, "Codes on the board", and 02's codes: the rule of each, in their words, and the rows of codes that are tried. A rule says of a
 -- place that its code is due there; "first" is said by what stands before.
 use Prim.Native.Nat.{ℕ, _+_, _*_, _≤_, _<_}
 use mathlib.Core.Path.{_≡_}
@@ -8,11 +8,14 @@ use lib.ListN.{length}
 use lib.Dec.{ltb}
 use Rattle.infon.specs.declared.Record.{Record}
 use Rattle.infon.specs.Bytes.{every}
-use Rattle.infon.specs.Formula.{nodes, depth}
+use Rattle.infon.specs.Formula.{Formula, nodes, depth}
 use Rattle.infon.specs.Codes.{Code}
 use Rattle.infon.specs.Policy.{Line, linesOf, isWellFormed, Entry, entriesOf, formulaIn, hypothesesOf, queriesOf, mostBytes, mostNodes, mostDepth}
 use Rattle.infon.specs.Listing.{listOf, mostListed}
 use Rattle.infon.specs.Journal.{recordBytes, keptOf, grown}
+use Rattle.infon.specs.Reasons.{reasons}
+use Rattle.infon.specs.Run.{isOnRecord}
+use Rattle.infon.specs.Chain.{queryOf}
 
 -- the nodes of some lines
 unfoldable pub nodesIn : List Entry → ℕ
@@ -62,6 +65,19 @@ pub data AnswersTooShort (file answers : List ℕ) : ℕ → Type 0 where
 pub data NoRoom (kept added : List Record) (journal : List ℕ) : ℕ → Type 0 where
   no-room : length journal < recordBytes * (length kept + length added) → NoRoom kept added journal 0
 
+-- 02, 31: "query count outside the file"
+pub data CountOutside (file : List ℕ) (count : ℕ) : ℕ → Type 0 where
+  count-none : count ≡ 0 → CountOutside file count 0
+  count-beyond : length (queriesOf (entriesOf file)) < count → CountOutside file count 0
+
+-- 32: "that query is not recorded in the kept part"
+pub data NotRecorded (fs : List Formula) (kept : List Record) (x : Formula) : ℕ → Type 0 where
+  not-recorded : isOnRecord fs kept x ≡ false → NotRecorded fs kept x 0
+
+-- 33: "the chain does not fit the lent buffer"
+pub data ChainTooLong (row : List Record) (out : List ℕ) : ℕ → Type 0 where
+  chain-too-long : length out < recordBytes * length row → ChainTooLong row out 0
+
 -- the codes about the file alone, in the order in which they are tried
 unfoldable pub fileRow : List ℕ → List Code
 fileRow file =
@@ -81,3 +97,15 @@ runRow file journal used limit answers =
     ++ (record { number = 6; rule = JournalTooShort file journal }
     ∷ (record { number = 7; rule = UsedTooLong journal used }
     ∷ (record { number = 8; rule = AnswersTooShort file answers } ∷ (record { number = 9; rule = NoRoom kept added journal } ∷ []))))
+
+-- the codes of a call for a chain
+unfoldable pub chainRow : List ℕ → List ℕ → ℕ → ℕ → List ℕ → List Code
+chainRow file journal used count out =
+    let entries = entriesOf file in
+    let fs = listOf entries in
+    let kept = keptOf (hypothesesOf entries) fs journal used in
+    let x = queryOf (queriesOf entries) count in
+    fileRow file
+    ++ (record { number = 7; rule = UsedTooLong journal used }
+    ∷ (record { number = 31; rule = CountOutside file count }
+    ∷ (record { number = 32; rule = NotRecorded fs kept x } ∷ (record { number = 33; rule = ChainTooLong (reasons fs x kept) out } ∷ []))))

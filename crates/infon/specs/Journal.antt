@@ -15,7 +15,7 @@ use Rattle.infon.specs.declared.Way.{Way}
 use Rattle.infon.specs.declared.Way.the-variants.{Hypothesis, Given, Weaken, Left, Right, Both, Apply, Attach}
 use Rattle.infon.specs.declared.Record.{Record}
 use Rattle.infon.specs.Bytes.{someOf, firstOf}
-use Rattle.infon.specs.Formula.{Formula}
+use Rattle.infon.specs.Formula.{Formula, same}
 use Rattle.infon.specs.Rules.{numbered, gives}
 
 -- "Nine bytes a record, high byte first: the mark 4C 51, the rule (one byte), the formula's number, first premise, second
@@ -108,6 +108,10 @@ decoded s =
 -- the formula's number stands in one of the records
 unfoldable pub isRecorded : ℕ → List Record → Bool
 isRecorded n done = someOf (λ (r : Record). eqb n (r .formula)) done
+
+-- the record is for the formula
+abbrev pub isFor : List Formula → Formula → Record → Bool
+isFor fs x r = same x (numbered fs (r .formula))
 
 -- "each premise that the rule has is recorded earlier"; "A premise is given by its formula's number on the list, not by the place
 -- of its record."

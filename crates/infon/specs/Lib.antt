@@ -8,5 +8,7 @@ pub mod Calculus
 pub mod Local
 pub mod Rules
 pub mod Journal
+pub mod Reasons
 pub mod Run
+pub mod Chain
 pub mod Board

@@ -10,14 +10,13 @@ use Rattle.infon.specs.declared.Answer.{Answer}
 use Rattle.infon.specs.declared.Answer.the-variants.{No, Yes, Open}
 use Rattle.infon.specs.declared.Report.{Report}
 use Rattle.infon.specs.Bytes.{someOf}
-use Rattle.infon.specs.Formula.{Formula, same}
+use Rattle.infon.specs.Formula.{Formula}
 use Rattle.infon.specs.declared.Verdict.{Verdict}
 use Rattle.infon.specs.Codes.{when, tried, settled}
 use Rattle.infon.specs.Policy.{entriesOf, hypothesesOf, queriesOf, code1, code2, code3, code4}
 use Rattle.infon.specs.Listing.{listOf, code5}
 use Rattle.infon.specs.Calculus.{Derives}
-use Rattle.infon.specs.Rules.{numbered}
-use Rattle.infon.specs.Journal.{isRecorded, recordBytes, spelledAll, keptOf, grown, isFinished}
+use Rattle.infon.specs.Journal.{isRecorded, isFor, recordBytes, spelledAll, keptOf, grown, isFinished}
 
 -- "An answer is yes (byte 1), no (byte 0) or open (byte 2)"
 unfoldable pub answerByte : Answer → ℕ
@@ -33,7 +32,7 @@ answerOf false false = Open
 
 -- the formula is recorded: one of the records is for it
 unfoldable pub isOnRecord : List Formula → List Record → Formula → Bool
-isOnRecord fs done x = someOf (λ (r : Record). same x (numbered fs (r .formula))) done
+isOnRecord fs done x = someOf (isFor fs x) done
 
 unfoldable pub answersOf : List Formula → List Formula → List Record → List Formula → List Answer
 answersOf hyps fs done queries = map (λ (x : Formula). answerOf (isOnRecord fs done x) (isFinished hyps fs done)) queries

@@ -40,6 +40,14 @@ pub struct Report {
     pub used: usize,
 }
 
+// What a call for a chain returns, laid out for C.
+#[repr(C)]
+pub struct Chained {
+    pub code: usize,
+    pub place: usize,
+    pub records: usize,
+}
+
 // What the codes that a function tries say: none applies, or one with its place.
 pub enum Verdict {
     Passed,

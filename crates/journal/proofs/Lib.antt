@@ -1,3 +1,4 @@
 pub mod Writing
 pub mod Keeping
 pub mod Holding
+pub mod Prepared

@@ -31,7 +31,7 @@ fn rule_of(way: Way) -> u8
 }
 
 // The first premise's number, or the mark for none.
-fn first_premise(way: Way) -> usize
+pub fn first_premise(way: Way) -> usize
     ensures { λ r. ⌜ r ≡ firstPremise way ⌝ }
 {
     match way {
@@ -47,7 +47,7 @@ fn first_premise(way: Way) -> usize
 }
 
 // The second premise's number, or the mark for none.
-fn second_premise(way: Way) -> usize
+pub fn second_premise(way: Way) -> usize
     ensures { λ r. ⌜ r ≡ secondPremise way ⌝ }
 {
     match way {

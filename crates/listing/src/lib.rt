@@ -31,7 +31,7 @@ const FORMS: usize = nodes::ROWS * STRIDE;
 const ROOM: usize = MOST + STRIDE;
 
 // Where a formula with this key stands among the first n, n where it is new.
-fn find(keys: &[u32], n: usize, key: u32) -> usize
+fn find(keys: &[u16], n: usize, key: u16) -> usize
     requires { ⌜ n ≤ length (now keys) ⌝ }
     ensures { λ r. ⌜ r ≡ placeIn key (take n (now (keys .entry))) ⌝ }
 {
@@ -62,8 +62,8 @@ fn list_forms(
     twin: usize,
     base: usize,
     cand: &mut [u16],
-    keys: &mut [u32],
-    owners: &mut [u32],
+    keys: &mut [u16],
+    owners: &mut [u16],
     count: usize,
 ) -> usize
     requires { ⌜ FormsReady p twin base (now cand) (now keys) (now owners) count ⌝ }
@@ -74,12 +74,12 @@ fn list_forms(
     let mut m = 0;
     while m < all {
         let puts = prefix::puts(prefix::weaker(p, m));
-        let key = (twin * STRIDE + puts) as u32;
+        let key = (twin * STRIDE + puts) as u16;
         let at = find(keys, n, key);
         let form = base * STRIDE + m;
         cand[form] = at as u16;
         keys[n] = key;
-        owners[n] = form as u32;
+        owners[n] = form as u16;
         n = longer(n, at);
         m += 1;
     }
@@ -92,8 +92,8 @@ fn list_node(
     nodes: &[u16],
     i: usize,
     cand: &mut [u16],
-    keys: &mut [u32],
-    owners: &mut [u32],
+    keys: &mut [u16],
+    owners: &mut [u16],
     n: usize,
 ) -> usize
     requires { ⌜ NodeReady (now file) (now nodes) i (now cand) (now keys) (now owners) n ⌝ }
@@ -119,8 +119,8 @@ fn list_nodes(
     nodes: &[u16],
     count: usize,
     cand: &mut [u16],
-    keys: &mut [u32],
-    owners: &mut [u32],
+    keys: &mut [u16],
+    owners: &mut [u16],
 ) -> Counted
     requires { ⌜ NodesHeld (now file) (now nodes) × ((count ≡ countNodes (nodesOf (now file))) × Worked (now cand) (now keys) (now owners)) ⌝ }
     ensures { λ r. ⌜ NodesListed (now (file .entry)) r (now (cand .exit)) (now (keys .exit)) (now (owners .exit)) ⌝ }
@@ -224,8 +224,8 @@ pub fn list(
     ensures { λ r. ⌜ ListedFile (now (file .entry)) (now (table .entry)) (now (queries .entry)) (now (table .exit)) (now (queries .exit)) r ⌝ }
 {
     let mut cand = [0u16; FORMS];
-    let mut keys = [0u32; ROOM];
-    let mut owners = [0u32; ROOM];
+    let mut keys = [0u16; ROOM];
+    let mut owners = [0u16; ROOM];
     let counted = list_nodes(file, nodes, count, &mut cand, &mut keys, &mut owners);
     let verdict = counted.verdict;
     if let Verdict::Refused { code, place } = verdict {

@@ -108,7 +108,7 @@ fn decode(bytes: &[u8]) -> Decoded
 }
 
 // The record that the nine bytes from a place spell, if they do; nothing where fewer are left.
-fn record_at(journal: &[u8], at: usize) -> Decoded
+pub fn record_at(journal: &[u8], at: usize) -> Decoded
     ensures { λ r. ⌜ r ≡ toDecoded (recordAt (now (journal .entry)) at) ⌝ }
 {
     if journal.len() < RECORD_BYTES {

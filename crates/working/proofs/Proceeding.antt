@@ -16,7 +16,7 @@ use Rattle.formulas.specs.Prepared.{PreparedFor}
 use Rattle.sizes.specs.Sizes.{sizeCodes}
 use Rattle.sizes.proofs.Sizes.{sizes-pass}
 use Rattle.working.specs.Working.{Workable, Works, Acceptable, Proceeds}
-use Rattle.working.proofs.Working.{few}
+use Rattle.journal.proofs.Prepared.{few}
 use Rattle.working.proofs.Outcomes.{left-refused, sizes-refused, succeeded}
 
 pub acceptable-few : (t : List ℕ) (n : ℕ) (numbers : List ℕ) (asked : ℕ) → Acceptable t n numbers asked → n ≤ tableRows

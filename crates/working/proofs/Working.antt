@@ -18,7 +18,7 @@ use Rattle.formulas.specs.Table.{numberIn, tableRows, tableCells}
 use Rattle.formulas.specs.Tests.{Held}
 use Rattle.formulas.proofs.Numbers.{numberIn-below}
 use Rattle.journal.specs.Kept.{Keeps}
-use Rattle.journal.proofs.Holding.{held-zeros, kept-of, kept-held}
+use Rattle.journal.proofs.Prepared as P
 use Rattle.links.specs.Chains.{linkCells, linkedIn, Searchable}
 use Rattle.links.proofs.Linked.{linked-ready, bottoms-below}
 use Rattle.growth.specs.declared.Growth.{Growth}
@@ -31,42 +31,27 @@ use Rattle.working.proofs.Answering.{answered}
 
 module _ (hyps fs queries : List Formula) (t : List ℕ) (n : ℕ) (numbers : List ℕ) (asked : ℕ)
     (prepared : Prepared hyps fs queries t n numbers asked) where
-  pub few : n ≤ tableRows
-  few = let h = prepared .table .few in let e = prepared .count in omega arith
-
-  pub wide : tableCells ≤ length t
-  wide = prepared .table .long
-
-  begin : Held hyps fs [] t n (replicate tableRows 0)
-  begin = held-zeros hyps fs t n tableRows (prepared .table) (prepared .count) (omega arith)
-
   module _ (journal : List ℕ) (used kept : ℕ) (marks : List ℕ) (keeps : Keeps t n journal used (replicate tableRows 0) kept marks) where
-    kept-is : kept ≡ length (keptOf hyps fs journal used)
-    kept-is = keeps .counted ∙ ap length (kept-of hyps fs t n journal used (replicate tableRows 0) begin)
-
-    holds-kept : Held hyps fs (keptOf hyps fs journal used) t n marks
-    holds-kept = rw (keeps .marked) (kept-held hyps fs t n journal used (replicate tableRows 0) begin)
-
     ready : (links : List ℕ) → links ≡ linkedIn t n (replicate linkCells 0) → Searchable t links marks n
     ready links e =
         subst (λ (l : List ℕ). Searchable t l marks n) (sym e)
-        (linked-ready t (replicate linkCells 0) marks n few wide (rw length-replicate (omega arith))
-        (let long = holds-kept .marks-are .long in let h = few in omega arith)
+        (linked-ready t (replicate linkCells 0) marks n (P.few hyps fs queries t n numbers asked prepared) (P.wide hyps fs queries t n numbers asked prepared) (rw length-replicate (omega arith))
+        (let long = (P.holds-kept hyps fs queries t n numbers asked prepared journal used kept marks keeps) .marks-are .long in let h = P.few hyps fs queries t n numbers asked prepared in omega arith)
         (bottoms-below hyps fs t n (prepared .count) (prepared .table)))
 
     pub grow-roomy : (links : List ℕ) (limit : ℕ) → links ≡ linkedIn t n (replicate linkCells 0) → recordBytes * n ≤ length journal
         → Roomy t links n marks journal kept limit
     unfolding keptOf
     grow-roomy links limit e long =
-        subst (λ (k : ℕ). Roomy t links n marks journal k limit) (sym kept-is)
-        (room hyps fs t n (keptOf hyps fs journal used) marks holds-kept limit links journal (ready links e)
+        subst (λ (k : ℕ). Roomy t links n marks journal k limit) (sym (P.kept-is hyps fs queries t n numbers asked prepared journal used kept marks keeps))
+        (room hyps fs t n (keptOf hyps fs journal used) marks (P.holds-kept hyps fs queries t n numbers asked prepared journal used kept marks keeps) limit links journal (ready links e)
         (kept-good hyps fs [] (wholeRecords (used / recordBytes) journal)) long)
 
     module _ (limit : ℕ) (growth : Growth) (marksAfter journalAfter : List ℕ)
         (grows : Grows t n marks journal kept limit growth marksAfter journalAfter) where
       holds-all : Held hyps fs (keptOf hyps fs journal used ++ grown hyps fs (keptOf hyps fs journal used) limit) t n marksAfter
       holds-all =
-          marks-hold hyps fs t n (keptOf hyps fs journal used) marks holds-kept limit journal kept growth marksAfter journalAfter grows
+          marks-hold hyps fs t n (keptOf hyps fs journal used) marks (P.holds-kept hyps fs queries t n numbers asked prepared journal used kept marks keeps) limit journal kept growth marksAfter journalAfter grows
 
       -- no more records than formulas
       pub all-few : kept + growth .added ≤ tableRows
@@ -74,16 +59,10 @@ module _ (hyps fs queries : List Formula) (t : List ℕ) (n : ℕ) (numbers : Li
       all-few =
           let done = keptOf hyps fs journal used in
           let row = grown-short hyps fs done (kept-good hyps fs [] (wholeRecords (used / recordBytes) journal)) limit in
-          let count = kept-is in
-          let added = added-is hyps fs t n done marks holds-kept limit journal kept growth marksAfter journalAfter grows in
+          let count = (P.kept-is hyps fs queries t n numbers asked prepared journal used kept marks keeps) in
+          let added = added-is hyps fs t n done marks (P.holds-kept hyps fs queries t n numbers asked prepared journal used kept marks keeps) limit journal kept growth marksAfter journalAfter grows in
           let short = prepared .table .few in
           omega arith
-
-      number-is : (i : ℕ) → i < asked → getD numbers i 0 ≡ numberIn fs (getD queries i True)
-      number-is i low =
-          sym (getD-take asked numbers i 0 low)
-          ∙ (ap (λ (l : List ℕ). getD l i 0) (prepared .numbers-are)
-          ∙ getD-map (numberIn fs) queries i True 0 (let e = prepared .asked-are in omega arith))
 
       pub answerable : (answers : List ℕ) → asked ≤ length answers → Answerable numbers asked marksAfter answers
       unfolding numbered
@@ -93,7 +72,7 @@ module _ (hyps fs queries : List Formula) (t : List ℕ) (n : ℕ) (numbers : Li
             room = enough;
             marked =
                 λ i low.
-                let is = number-is i low in
+                let is = P.number-is hyps fs queries t n numbers asked prepared i low in
                 let inside : i < length queries = let e = prepared .asked-are in omega arith in
                 let below =
                 numberIn-below fs (getD queries i True) (prepared .listed (getD queries i True) (numbered-mem queries i inside)) in
@@ -112,9 +91,9 @@ module _ (hyps fs queries : List Formula) (t : List ℕ) (n : ℕ) (numbers : Li
       works answers answersAfter answers-are =
           let done = keptOf hyps fs journal used in
           let more = grown hyps fs done limit in
-          let added = added-is hyps fs t n done marks holds-kept limit journal kept growth marksAfter journalAfter grows in
-          let ends = finished-is hyps fs t n done marks holds-kept limit journal kept growth marksAfter journalAfter grows in
-          let bytes = journal-is hyps fs t n done marks holds-kept limit journal kept growth marksAfter journalAfter grows in
+          let added = added-is hyps fs t n done marks (P.holds-kept hyps fs queries t n numbers asked prepared journal used kept marks keeps) limit journal kept growth marksAfter journalAfter grows in
+          let ends = finished-is hyps fs t n done marks (P.holds-kept hyps fs queries t n numbers asked prepared journal used kept marks keeps) limit journal kept growth marksAfter journalAfter grows in
+          let bytes = journal-is hyps fs t n done marks (P.holds-kept hyps fs queries t n numbers asked prepared journal used kept marks keeps) limit journal kept growth marksAfter journalAfter grows in
           let said =
           ap (λ (k : ℕ). answeredBytes numbers k marksAfter (growth .finished)) (sym (prepared .asked-are))
           ∙ answered hyps fs (done ++ more) t n marksAfter holds-all queries numbers (growth .finished) (prepared .listed)
@@ -124,11 +103,11 @@ module _ (hyps fs queries : List Formula) (t : List ℕ) (n : ℕ) (numbers : Li
                 record {
                   code = 0;
                   place = 0;
-                  kept = kept-is i;
+                  kept = (P.kept-is hyps fs queries t n numbers asked prepared journal used kept marks keeps) i;
                   added = added i;
                   finished = ends i;
-                  used = recordBytes * (kept-is i + added i);
+                  used = recordBytes * ((P.kept-is hyps fs queries t n numbers asked prepared journal used kept marks keeps) i + added i);
                 };
-            journal = (bytes ∙ ap (λ (k : ℕ). written journal (recordBytes * k) (spelledAll more)) kept-is) i;
+            journal = (bytes ∙ ap (λ (k : ℕ). written journal (recordBytes * k) (spelledAll more)) (P.kept-is hyps fs queries t n numbers asked prepared journal used kept marks keeps)) i;
             answers = (answers-are ∙ ap (written answers 0) said) i;
           }

@@ -1,6 +1,7 @@
 -- `working::work::work` meets its contract: the links, the kept part, the growth and the answers, each as its function ensures.
 -- Assumes nothing.
-use Rattle.working.proofs.Working.{few, wide, grow-roomy, answerable, works, all-few}
+use Rattle.working.proofs.Working.{grow-roomy, answerable, works, all-few}
+use Rattle.journal.proofs.Prepared.{few, wide}
 use native.Mathlib.Omega.{arith}
 use borrow.Author.Needs.{needs}
 use Rattle.working.proofs.work.work.Statement.{statement}

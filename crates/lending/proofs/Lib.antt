@@ -1,0 +1,3 @@
+mod Resting
+mod Chaining
+mod OneAnswer

@@ -1,0 +1,4 @@
+pub mod Wanting
+mod Lending
+pub mod Choosing
+pub mod Joined
