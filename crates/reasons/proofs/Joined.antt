@@ -6,7 +6,7 @@ use native.Mathlib.Numerals.{add-one}
 use native.Mathlib.Omega.{arith}
 use mathlib.Core.Path.{_≡_, refl, sym, _∙_, ap, subst}
 use mathlib.Core.Logic.{_⊎_, inl, inr, ⊎-elim}
-use mathlib.Core.Bool.{Bool, true, false, cond, _||_, false≢true}
+use mathlib.Core.Bool.{Bool, true, false, cond, _||_, or-false, or-comm, or-assoc, false≢true}
 use mathlib.Core.Option.{Option, none, some}
 use mathlib.Core.List.{List, [], _∷_, _++_, append-nil, append-assoc}
 use lib.ListN.{length, getD, set, length-set, length-append}
@@ -25,10 +25,6 @@ use Rattle.infon.proofs.Grown.{GoodRow}
 use Rattle.infon.proofs.Reasons.{used-behind}
 use Rattle.reader.specs.Decoded.{recordAt}
 use Rattle.reasons.specs.Wanted.{isWanted, wish, onlyWanted, wishFor, oneOf, wantedAt, sweptDown, foundDown, wantedTo}
-
-or-false : (b : Bool) → b || false ≡ b
-or-false true = refl
-or-false false = refl
 
 -- a number below the mark for none is a premise exactly where it stands at one of the two places
 premise-at : (p : ℕ) (way : Way) → p < 65535 → isPremise p way ≡ eqb p (firstPremise way) || eqb p (secondPremise way)
@@ -53,12 +49,6 @@ wanted-set wanted n p low =
     (λ (h : eqb p n ≡ false). rw (h, getD-set-other {A = ℕ} wanted n p 1 0 (λ e. false≢true (sym h ∙ eq-eqb p n e))))
     (decided (eqb p n))
 
-or-swap : (a b c : Bool) → a || (b || c) ≡ b || a || c
-or-swap true true c = refl
-or-swap true false c = refl
-or-swap false true c = refl
-or-swap false false c = refl
-
 -- a way's premises are wanted
 wish-wanted : (way : Way) (wanted : List ℕ) (p : ℕ) → p < length wanted → length wanted ≤ 65535
     → isWanted (wish way wanted) p ≡ isPremise p way || isWanted wanted p
@@ -69,7 +59,7 @@ wish-wanted way wanted p low short =
     let size = length-set wanted first 1 in
     wanted-set (set wanted first 1) second p (omega arith)
     ∙ (ap (λ (b : Bool). eqb p second || b) (wanted-set wanted first p low)
-    ∙ (or-swap (eqb p second) (eqb p first) (isWanted wanted p)
+    ∙ (sym (or-assoc (eqb p second) (eqb p first) (isWanted wanted p)) ∙ ap (λ (b : Bool). b || isWanted wanted p) (or-comm (eqb p second) (eqb p first))
     ∙ ap (λ (b : Bool). b || isWanted wanted p) (sym (premise-at p way (omega arith)))))
 
 -- what some records rest on is wanted, the last one's first
@@ -86,10 +76,6 @@ unfolding wishes
 wishes-length [] wanted = refl
 wishes-length (r ∷ row) wanted = wish-length (r .way) (wishes row wanted) ∙ wishes-length row wanted
 
-or-assoc : (a b c : Bool) → a || (b || c) ≡ a || b || c
-or-assoc true b c = refl
-or-assoc false b c = refl
-
 wishes-wanted : (row : List Record) (wanted : List ℕ) (p : ℕ) → p < length wanted → length wanted ≤ 65535
     → isWanted (wishes row wanted) p ≡ isUsed p row || isWanted wanted p
 unfolding wishes isUsed someOf
@@ -98,17 +84,11 @@ wishes-wanted (r ∷ row) wanted p low short =
     let size = wishes-length row wanted in
     wish-wanted (r .way) (wishes row wanted) p (omega arith) (omega arith)
     ∙ (ap (λ (b : Bool). isPremise p (r .way) || b) (wishes-wanted row wanted p low short)
-    ∙ or-assoc (isPremise p (r .way)) (isUsed p row) (isWanted wanted p))
+    ∙ sym (or-assoc (isPremise p (r .way)) (isUsed p row) (isWanted wanted p)))
 
 reasons-none : (fs : List Formula) (x : Formula) → reasons fs x [] ≡ []
 unfolding reasons
 reasons-none fs x = refl
-
-or-comm : (a b : Bool) → a || b ≡ b || a
-or-comm true true = refl
-or-comm true false = refl
-or-comm false true = refl
-or-comm false false = refl
 
 -- What is known of a journal's first records, of the formula that is asked for, with its number, and of the row in which only that
 -- number is wanted.
