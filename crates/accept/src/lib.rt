@@ -1,4 +1,6 @@
 // What comes of a policy file alone: the codes about it, in their order, and where none applies its nodes, its list and its queries.
+#![tactic(auto)]
+
 ghost use Rattle.std.specs.Prelude.{◌≡◌, ◌≤◌, length};
 ghost use Rattle.infon.specs.declared.Verdict.TheVariants.{Refused};
 ghost use Rattle.nodes.specs.Nodes.{node_rows, node_table};

@@ -1,4 +1,6 @@
 // The answers to a file's queries, by the marks of what is recorded.
+#![tactic(auto)]
+
 ghost use Rattle.std.specs.Prelude.{◌≡◌, ◌<◌, length};
 ghost use Rattle.infon.specs.Run.{answer_of, answer_byte, written};
 ghost use Rattle.answers.specs.Answered.{Answerable, answer_at, answered_bytes};

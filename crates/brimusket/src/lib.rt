@@ -1,5 +1,7 @@
 // The C boundary, and nothing else: include/brimusket.h declares what stands here. Each slice is a pointer and a length, and what is
 // returned is laid out for C where it is declared.
+#![tactic(auto)]
+
 ghost use Rattle.std.specs.Prelude.{◌≡◌};
 ghost use Rattle.infon.specs.Run.{run as ranOn};
 ghost use Rattle.infon.specs.Chain.{chain as chainOf};

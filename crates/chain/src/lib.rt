@@ -1,5 +1,7 @@
 // The chain of a query from its inputs to what it leaves: a policy file, a journal, its used length, the query's count from 1 and a
 // lent buffer; what comes of them is one equation to 02's chain. All scratch is local.
+#![tactic(auto)]
+
 ghost use Rattle.std.specs.Prelude.{◌≡◌};
 ghost use Rattle.infon.specs.Chain.{chain as chainOf};
 ghost use Rattle.lending.specs.Lending.{lent_as};

@@ -1,5 +1,7 @@
 // The columns of the formula table that come from the list alone, one after the other. Form number m of node b stands at
 // b * STRIDE + m; `owners` has the form as which a formula was first listed, `cand` the number of every form of a base.
+#![tactic(auto)]
+
 ghost use Rattle.std.specs.Prelude.{◌≡◌, ◌*◌, ◌<◌, ◌≤◌, length, get_or};
 ghost use Rattle.nodes.specs.Nodes.{node_rows};
 ghost use Rattle.formulas.specs.Table.{table_columns};

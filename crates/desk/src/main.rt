@@ -1,5 +1,7 @@
 // The desk program: reads a policy file from standard input, starts with an empty journal, runs to the end and prints one line
 // per query, or only the refusal. Where the input cannot be read, or the text cannot be written, it says so on standard error.
+#![tactic(auto)]
+
 ghost use Rattle.std.specs.Prelude.{◌≤◌, length};
 ghost use Rattle.writing.specs.Placed.{Prints};
 ghost use Rattle.settling.specs.Settled.{text_bytes};

@@ -1,4 +1,6 @@
 // Which line of a file says a formula as a fact: the formula is told by the node of its base and its put places.
+#![tactic(auto)]
+
 ghost use Rattle.std.specs.Prelude.{◌≡◌, List, ℕ, ◌<◌};
 ghost use Rattle.infon.specs.Formula.{Formula};
 ghost use Rattle.infon.specs.Policy.{entries_of};

@@ -1,5 +1,7 @@
 // The formula table of a policy file: what its columns mean stands in specs/, the laws of that in proofs/. Here are the numbers that
 // those who fill the table and those who read it share, and the two ways to a cell.
+#![tactic(auto)]
+
 ghost use Rattle.std.specs.Prelude.{◌≡◌, ◌<◌, ◌≤◌, length};
 ghost use Rattle.formulas.specs.Table.{table_rows, table_columns, table_cells, cell, with_cell};
 
@@ -58,8 +60,8 @@ pub fn cell_at(table: &[u16], column: usize, i: usize) -> usize
 
 // Writes one cell.
 pub fn set_cell(table: &mut [u16], column: usize, i: usize, value: usize)
-    requires table_cells_in_bounds { (table_cells ≤ length table.old) × (column < table_columns) × (i < table_rows) }
-    requires value_bound { value < 65536 }
+    requires inside { (table_cells ≤ length table.old) × (column < table_columns) × (i < table_rows) }
+    requires fits { value < 65536 }
     ensures { table.new ≡ with_cell table.old column i value }
 {
     let at = column * ROWS + i;

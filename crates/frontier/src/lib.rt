@@ -1,5 +1,7 @@
 // A set of formulas that covers all those that are not recorded and have a way now, so that the next record is looked for in it
 // alone: how it is filled, and how it is widened as a formula is recorded.
+#![tactic(auto)]
+
 ghost use Rattle.std.specs.Prelude.{◌≡◌, ◌-◌, ◌*◌, ◌≤◌, ◌<◌, length};
 ghost use Rattle.formulas.specs.Table.{table_rows, table_cells};
 ghost use Rattle.links.specs.Chains.{chain_cells, ChainOf, Searchable};

@@ -1,4 +1,6 @@
 // The growth of the journal: records are added right after the kept part, each the next one.
+#![tactic(auto)]
+
 ghost use Rattle.growth.specs.Grown.{Addable, Adds, Roomy, Grows};
 
 use frontier::Next;

@@ -90,7 +90,7 @@ enlist_begins fs (x ∷ rest) = begins_trans (enlist_one_begins fs x) (enlist_be
 pub enlist_keeps : (fs xs : List Formula) {x : Formula} → Memᴰ x fs → Memᴰ x (enlist fs xs)
 enlist_keeps fs xs m = begins_keeps (enlist_begins fs xs) m
 
-pub enlist_has : (fs : List Formula) {xs : List Formula} {x : Formula} → Memᴰ x xs → Memᴰ x (enlist fs xs)
+pub enlist_has : {x : Formula} (fs : List Formula) {xs : List Formula} → Memᴰ x xs → Memᴰ x (enlist fs xs)
 unfolding enlist
 enlist_has fs (Memᴰ.head {x = first} {xs = rest} e) =
     Memᴰ.cast e (enlist_keeps (enlist_one fs first) rest (enlist_one_has fs first))

@@ -267,6 +267,7 @@ no_rule_passed says off = ⊎_elim (λ pass. pass) (λ found. absurd (off found.
 -- The code given is the first whose rule holds, ..
 pub first_given : {row : List Code} {vs : List Verdict} {code place : ℕ} → Speaks row vs → First row code place → tried vs ≡ Refused code place
 unfolding tried
+first_given silent first = elim first [ ]
 first_given (speaks c v row vs says number rest) (at_front _ _ place rule) = stop_at (says.given place rule) (tried vs)
 first_given (speaks c v row vs says number rest) (further _ _ code place off first) =
     pass_on (no_rule_passed says off) (tried vs) ∙ first_given rest first
@@ -304,6 +305,7 @@ given_none heard told =
 
 -- .. and no code is 0.
 pub first_numbered : {row : List Code} {vs : List Verdict} {code place : ℕ} → Speaks row vs → First row code place → 1 ≤ code
+first_numbered silent first = elim first [ ]
 first_numbered (speaks c v row vs says number rest) (at_front _ _ place rule) = number
 first_numbered (speaks c v row vs says number rest) (further _ _ code place off first) = first_numbered rest first
 

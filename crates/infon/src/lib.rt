@@ -1,5 +1,7 @@
 // The paper as definitions and theorems: the first stand in specs/, the second in proofs/. Here are only the types of which both
 // the definitions and the code speak.
+#![tactic(auto)]
+
 
 // The eight ways to a record, rules 1 to 8 in the table's order: each with the numbers of the premises that it has.
 #[derive(Drop)]

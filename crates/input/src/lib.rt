@@ -1,4 +1,6 @@
 // Reading an input whole, so that its end can be told from a failure.
+#![tactic(auto)]
+
 ghost use Rattle.input.specs.Read.{Holds};
 
 // What reading brought: so many bytes at the buffer's start, or a failure.

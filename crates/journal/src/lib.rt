@@ -1,4 +1,6 @@
 // The part of a journal that is kept, and records written as bytes. The crate `reader` says which nine bytes a record is.
+#![tactic(auto)]
+
 ghost use Rattle.std.specs.Prelude.{◌≡◌, ◌+◌, ◌<◌, ◌≤◌, length};
 ghost use Rattle.infon.specs.Journal.{record_bytes, rule_of, first_premise, second_premise, two_bytes, spelled};
 ghost use Rattle.infon.specs.Run.{written};

@@ -1,4 +1,6 @@
 // The chain of a query on an accepted file: codes 7, 31, 32 and 33, and the records that the query rests on.
+#![tactic(auto)]
+
 ghost use Rattle.std.specs.Prelude.{◌≡◌, []};
 ghost use Rattle.infon.specs.Chain.{chain_refusal};
 ghost use Rattle.lending.specs.Lending.{Restable, LendsReasons, Lendable, Lends};

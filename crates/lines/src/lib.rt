@@ -1,4 +1,6 @@
 // The lines of a file: where each ends, whether it is well formed, and code 2.
+#![tactic(auto)]
+
 ghost use Rattle.std.specs.Prelude.{◌≡◌, suc, ◌+◌, ◌≤◌, ◌<◌, length, take, drop};
 ghost use Rattle.infon.specs.Policy.{sentence_of, is_some, code2};
 ghost use Rattle.lines.specs.Lining.{until_feed, is_opening};
@@ -36,8 +38,8 @@ fn is_opening(letter: u8, gap: u8) -> bool
 // The line from `start` to its line feed at `end` is a letter, a space and a formula. The formula is the part of the file that
 // starts after the letter and the space and ends before the line feed.
 fn is_well_formed(file: &[u8], start: usize, end: usize) -> bool
-    requires start_in_bounds { start < length file.now }
-    requires end_value { end ≡ start + until_feed (drop start file.now) }
+    requires inside { start < length file.now }
+    requires ended { end ≡ start + until_feed (drop start file.now) }
     ensures { result ≡ is_some (sentence_of (take (suc (until_feed (drop start file.now))) (drop start file.now))) }
 {
     if end == file.len() {

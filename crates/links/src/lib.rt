@@ -1,5 +1,7 @@
 // The chains along which a way is looked for: formulas that have the same left part, the same right part, or the same form with
 // put at every place.
+#![tactic(auto)]
+
 ghost use Rattle.std.specs.Prelude.{◌≡◌, ◌+◌, ◌<◌, ◌≤◌, length, get_or};
 ghost use Rattle.formulas.specs.Table.{table_rows, table_cells, table_columns};
 ghost use Rattle.links.specs.Chains.{link_cells, chain_cells, none_first, link_place, chain_in, linked_in};

@@ -1,6 +1,8 @@
 // The list of formulas that matter, and the formula table: all bases in order, each weaker prefix in order, each formula found
 // among those listed or put behind them. Form m of node b, its formula under weaker prefix number m, stands at b * STRIDE + m: `cand`
 // has the number of every form of a base, `owners` the form as which a formula was first listed, `keys` that form's key.
+#![tactic(auto)]
+
 ghost use Rattle.std.specs.Prelude.{◌≡◌, cond, suc, ◌+◌, ◌≤◌, ◌<◌, length, take, ltb};
 ghost use Rattle.nodes.specs.Nodes.{node_rows, count_nodes, nodes_of, NodesHeld};
 ghost use Rattle.listing.specs.Forms.{listed_to, place_in, Entered, FormsReady, FormsEntered};

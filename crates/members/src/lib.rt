@@ -1,4 +1,6 @@
 // A set of numbers as bits in words of 64. Bit i % 64 of word i / 64 stands for number i.
+#![tactic(auto)]
+
 ghost use Rattle.std.specs.Prelude.{◌≡◌, true, ◌≤◌, ◌<◌, length};
 ghost use Rattle.formulas.specs.Table.{table_rows};
 ghost use Rattle.members.specs.Members.{cover_words, is_in, with_number, without_member, LeastIn};

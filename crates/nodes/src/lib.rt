@@ -1,5 +1,7 @@
 // The node table of a policy file: what its columns mean stands in specs/, the laws of that in proofs/. Here are the numbers that
 // those who fill the table and those who read it share, and the two ways to a cell.
+#![tactic(auto)]
+
 ghost use Rattle.std.specs.Prelude.{◌≡◌, ◌<◌, length};
 ghost use Rattle.nodes.specs.Nodes.{node_rows, node_columns, node_table, node_cell, with_node_cell};
 
@@ -54,8 +56,8 @@ pub fn wide(x: u16) -> usize
 
 // A cell of the table.
 pub fn cell_at(nodes: &[u16], column: usize, i: usize) -> usize
-    requires column_lt_node_columns { (column < node_columns) × (i < node_rows) }
-    requires nodes_len { length nodes.now ≡ node_table }
+    requires inside { (column < node_columns) × (i < node_rows) }
+    requires whole { length nodes.now ≡ node_table }
     ensures { result ≡ node_cell nodes.now column i }
 {
     let at = column * ROWS + i;
@@ -64,9 +66,9 @@ pub fn cell_at(nodes: &[u16], column: usize, i: usize) -> usize
 
 // Writes one cell.
 pub fn set_cell(nodes: &mut [u16], column: usize, i: usize, value: usize)
-    requires column_lt_node_columns { (column < node_columns) × (i < node_rows) }
-    requires value_bound { value < 65536 }
-    requires nodes_len { length nodes.old ≡ node_table }
+    requires inside { (column < node_columns) × (i < node_rows) }
+    requires fits { value < 65536 }
+    requires whole { length nodes.old ≡ node_table }
     ensures { nodes.new ≡ with_node_cell nodes.old column i value }
 {
     let at = column * ROWS + i;

@@ -31,10 +31,10 @@ fn kind_number(node: Parsed) -> usize
 
 // What the file's bytes tell of each node, in the order of their first bytes. The count of nodes comes back.
 pub fn fill_spots(file: &[u8], nodes: &mut [u16]) -> usize
-    requires file_value { code2 file.now ≡ Passed }
-    requires file_value_2 { code3 (entries_of file.now) ≡ Passed }
-    requires file_len_bound { length file.now ≤ most_bytes }
-    requires nodes_len { length nodes.old ≡ node_table }
+    requires well_formed { code2 file.now ≡ Passed }
+    requires few { code3 (entries_of file.now) ≡ Passed }
+    requires short { length file.now ≤ most_bytes }
+    requires whole { length nodes.old ≡ node_table }
     ensures { Begun file.now result nodes.old nodes.new }
 {
     let mut at: usize = 2;
@@ -55,8 +55,8 @@ pub fn fill_spots(file: &[u8], nodes: &mut [u16]) -> usize
 // The number behind a node's last node, from the ends of the nodes behind it: a leaf's is the next number, a quotation's that of
 // the formula behind it, an operator's that of its right part, which begins where its left part ends.
 fn end_from(nodes: &[u16], i: usize) -> usize
-    requires i_lt_node_rows { i < node_rows }
-    requires nodes_len { length nodes.now ≡ node_table }
+    requires inside { i < node_rows }
+    requires whole { length nodes.now ≡ node_table }
     requires end_reads { EndReads nodes.now i }
     ensures { result ≡ end_from nodes.now i }
 {
@@ -86,10 +86,10 @@ pub fn fill_ends(nodes: &mut [u16], count: usize)
 
 // What stands above a node's kids: the node itself above what it quotes, and what stands above it above its parts.
 fn hand_down(nodes: &mut [u16], i: usize)
-    requires i_lt_node_rows { i < node_rows }
-    requires nodes_len { length nodes.old ≡ node_table }
+    requires inside { i < node_rows }
+    requires whole { length nodes.old ≡ node_table }
     requires end_reads { EndReads nodes.old i }
-    requires i_bound { node_cell nodes.old node_depth i < node_rows }
+    requires depth_fits { node_cell nodes.old node_depth i < node_rows }
     ensures { nodes.new ≡ handed_down nodes.old i }
 {
     let kind = cell_at(nodes, KIND, i);

@@ -1,4 +1,6 @@
 // Codes 1 to 4 and the table of nodes: the first three over the bytes of the file, the fourth over the table.
+#![tactic(auto)]
+
 mod filling;
 mod table;
 
@@ -37,10 +39,10 @@ pub fn check(file: &[u8]) -> Verdict
 
 // The table of the nodes of a file that passed codes 1 to 3. The count of nodes comes back.
 pub fn fill(file: &[u8], nodes: &mut [u16]) -> usize
-    requires file_value { code2 file.now ≡ Passed }
-    requires file_value_2 { code3 (entries_of file.now) ≡ Passed }
-    requires file_len_bound { length file.now ≤ most_bytes }
-    requires nodes_len { length nodes.old ≡ node_table }
+    requires well_formed { code2 file.now ≡ Passed }
+    requires few { code3 (entries_of file.now) ≡ Passed }
+    requires short { length file.now ≤ most_bytes }
+    requires whole { length nodes.old ≡ node_table }
     ensures { NodesFilled file.now result nodes.old nodes.new }
 {
     let count = fill_spots(file, nodes);

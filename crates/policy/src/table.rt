@@ -7,10 +7,10 @@ use nodes::{ABOVE, DEPTH, END, KIND, LINE, NONE_ABOVE, OWN, PLACE, set_cell};
 
 // A node's row as far as its own bytes tell it: for the rest it is a leaf with nothing above.
 pub fn put_spot(nodes: &mut [u16], i: usize, kind: usize, at: usize, own: usize, line: usize)
-    requires i_lt_node_rows { i < node_rows }
-    requires kind_bound { (kind < 65536) × (at < 65536) }
-    requires own_bound { (own < 65536) × (line < 65536) }
-    requires nodes_len { length nodes.old ≡ node_table }
+    requires inside { i < node_rows }
+    requires spot_fits { (kind < 65536) × (at < 65536) }
+    requires own_fits { (own < 65536) × (line < 65536) }
+    requires whole { length nodes.old ≡ node_table }
     ensures { nodes.new ≡ spotted nodes.old i kind at own line }
 {
     set_cell(nodes, KIND, i, kind);
@@ -24,9 +24,9 @@ pub fn put_spot(nodes: &mut [u16], i: usize, kind: usize, at: usize, own: usize,
 
 // The nearest quotation above a node, and how many there are.
 pub fn put_above(nodes: &mut [u16], i: usize, above: usize, depth: usize)
-    requires i_lt_node_rows { i < node_rows }
-    requires above_bound { (above < 65536) × (depth < 65536) }
-    requires nodes_len { length nodes.old ≡ node_table }
+    requires inside { i < node_rows }
+    requires above_fits { (above < 65536) × (depth < 65536) }
+    requires whole { length nodes.old ≡ node_table }
     ensures { nodes.new ≡ above_put nodes.old i above depth }
 {
     set_cell(nodes, ABOVE, i, above);

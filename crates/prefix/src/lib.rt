@@ -1,5 +1,7 @@
 // The row of quotations above a base, by value: a prefix. Its places go from the innermost to the outermost, each with its kind and
 // its principal, the principal by the number of its quotation node.
+#![tactic(auto)]
+
 ghost use Rattle.std.specs.Prelude.{◌≡◌, ◌<◌};
 ghost use Rattle.prefix.specs.Places.{Sized, used, prefix_at, Readable, branches, weaker_count_of, lowered, later_bits, weaker_at, put_weight, puts_of};
 
@@ -10,6 +12,7 @@ pub const PLACES: usize = 4;
 
 // One place: its kind, and the number of its quotation node.
 #[derive(Drop)]
+#[derive(Clone, Copy)]
 pub struct Place {
     pub said: bool,
     pub node: usize,

@@ -1,4 +1,6 @@
 // What is printed of a run, on slices: a line for each query, with its question where it is asked for, or the line of a refusal.
+#![tactic(auto)]
+
 ghost use Rattle.std.specs.Prelude.{◌≡◌, ◌+◌, ◌-◌, ◌≤◌, ◌<◌, length};
 ghost use Rattle.infon.specs.Policy.{entries_of, queries_of};
 ghost use Rattle.writing.specs.Placed.{Prints};
@@ -35,9 +37,9 @@ fn put_query(
     out: &mut [u8],
     at: usize,
 ) -> Progress
-    requires start_lt_end { (start < end) × (end ≤ length file.now) }
-    requires count_in_bounds { count < length answers.now }
-    requires start_in_bounds { at + 32 + (end - start) ≤ length out.old }
+    requires inside { (start < end) × (end ≤ length file.now) }
+    requires answered { count < length answers.now }
+    requires room { at + 32 + (end - start) ≤ length out.old }
     ensures { Turned file.now start end asked answers.now count at out.old result out.new }
 {
     if file[start] != b'Q' {
@@ -83,7 +85,7 @@ pub fn print_run(
     out: &mut [u8],
 ) -> usize
     requires printable { code ≡ 0 → Printable file.now answers.now out.old }
-    requires in_bounds { 64 ≤ length out.old }
+    requires room { 64 ≤ length out.old }
     ensures { Prints (printed_run asked file.now code place answers.now) out.old result out.new }
 {
     if code == 0 {

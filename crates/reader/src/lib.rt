@@ -5,6 +5,8 @@
 //   bytes 3 and 4   the formula's number
 //   bytes 5 and 6   the first premise's number, FF FF for none
 //   bytes 7 and 8   the second premise's number, FF FF for none
+#![tactic(auto)]
+
 ghost use Rattle.std.specs.Prelude.{◌≡◌, ◌+◌, ◌^◌, ◌<◌, ◌≤◌, length};
 ghost use Rattle.infon.specs.Journal.{record_bytes, number_at, alone, with_one, way_of, decoded};
 ghost use Rattle.reader.specs.Decoded.{to_rule, to_decoded, record_at};

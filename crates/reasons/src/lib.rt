@@ -1,4 +1,6 @@
 // The records that a recorded formula rests on: which of a journal's records are wanted for it, and these lent to a buffer.
+#![tactic(auto)]
+
 ghost use Rattle.std.specs.Prelude.{◌≡◌, ◌+◌, ◌*◌, ◌≤◌, ◌<◌, length, set};
 ghost use Rattle.infon.specs.Journal.{record_bytes, spelled_all};
 ghost use Rattle.infon.specs.Run.{written};

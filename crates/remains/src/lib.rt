@@ -1,4 +1,6 @@
 // What of a journal's used bytes a call does not keep: the bytes behind the last whole record, and how much that is in all.
+#![tactic(auto)]
+
 ghost use Rattle.std.specs.Prelude.{◌≡◌, take, get_or};
 ghost use Rattle.remains.specs.Dropped.{rest_of, is_begun, dropped_by};
 

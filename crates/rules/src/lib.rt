@@ -1,4 +1,6 @@
 // The test of a record over the formula table and the marks of what is recorded: the eight rules as comparisons of columns.
+#![tactic(auto)]
+
 ghost use Rattle.std.specs.Prelude.{◌≡◌, ◌&&◌, ◌<◌, ◌≤◌, length, eqb};
 ghost use Rattle.infon.specs.declared.Way.TheVariants.{Weaken};
 ghost use Rattle.formulas.specs.Table.{table_rows, table_cells, table_columns, cell};

@@ -1,5 +1,7 @@
 // A run from its inputs to what it leaves: a policy file, a journal, its used length, a limit and an answer buffer; what comes of
 // them is one equation to the paper's run. All scratch is local.
+#![tactic(auto)]
+
 ghost use Rattle.std.specs.Prelude.{◌≡◌};
 ghost use Rattle.infon.specs.Run.{run as ranOn};
 ghost use Rattle.working.specs.Working.{left};

@@ -1,5 +1,7 @@
 // What a call makes of a policy file and a journal, on slices and before anything is written: the journal grown, the text to print,
 // and what of the journal was not kept.
+#![tactic(auto)]
+
 ghost use Rattle.std.specs.Prelude.{◌≡◌};
 ghost use Rattle.writing.specs.Placed.{Prints};
 ghost use Rattle.settling.specs.Settled.{answer_room, text_of, Settles};

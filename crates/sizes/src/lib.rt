@@ -1,4 +1,6 @@
 // Codes 6 to 8 by the sizes that they compare, and what a refusal returns.
+#![tactic(auto)]
+
 ghost use Rattle.std.specs.Prelude.{◌≡◌, ◌≤◌, []};
 ghost use Rattle.infon.specs.Codes.{tried};
 ghost use Rattle.infon.specs.Run.{refusal as refusedBy};

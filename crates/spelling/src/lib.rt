@@ -1,5 +1,7 @@
 // The bytes of one formula: its tokens, given back as parts of the caller's text; the node that begins at a place; and the test
 // whether a text is a formula.
+#![tactic(auto)]
+
 ghost use Rattle.std.specs.Prelude.{◌≡◌, [], ◌∷◌, ◌+◌, ◌^◌, ◌≤◌, ◌<◌, length, drop};
 ghost use Rattle.infon.specs.Bytes.{alike};
 ghost use Rattle.infon.specs.Formula.{is_name_byte, is_name, formula_of};
@@ -191,8 +193,8 @@ pub fn node_at(text: &[u8], at: usize) -> Parsed
 
 // True and a name are one formula of those needed; an operator needs one more than it is; a quotation as many as before.
 fn gone_on(from: Cursor, node: Parsed) -> Onward
-    requires needed_nonzero { (0 < from.needed) × (from.needed ≤ from.at + 1) }
-    requires at_bound { from.at + 2 < 2 ^ 64 }
+    requires unfinished { (0 < from.needed) × (from.needed ≤ from.at + 1) }
+    requires fits { from.at + 2 < 2 ^ 64 }
     ensures { result ≡ gone_on from node }
 {
     let at = from.at;

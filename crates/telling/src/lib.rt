@@ -1,4 +1,6 @@
 // What a lender desk is told of a query, in words: where each record that it rests on comes from.
+#![tactic(auto)]
+
 ghost use Rattle.std.specs.Prelude.{◌≡◌, ◌++◌, ℕ, ◌≤◌, ◌<◌, length, get_or};
 ghost use Rattle.infon.specs.Bytes.{bytes};
 ghost use Rattle.writing.specs.Placed.{PutSome};

@@ -1,5 +1,7 @@
 // Which nodes of a file are twins: the same formula begins there, under the same principals. The bytes of the file are compared
 // here and nowhere else on the way to the list.
+#![tactic(auto)]
+
 ghost use Rattle.std.specs.Prelude.{◌≡◌, ◌<◌};
 ghost use Rattle.infon.specs.Bytes.{alike};
 ghost use Rattle.infon.specs.Formula.{spelling};

@@ -1,4 +1,6 @@
 // The way from node to node through a file whose lines are well formed, and code 3.
+#![tactic(auto)]
+
 ghost use Rattle.std.specs.Prelude.{◌≡◌, ◌+◌, ◌^◌, ◌<◌, length};
 ghost use Rattle.infon.specs.declared.Verdict.TheVariants.{Passed};
 ghost use Rattle.infon.specs.Policy.{entries_of, code2, code3};

@@ -1,4 +1,6 @@
 // The least way to a formula, found along chains of formulas that share a part or a bottom.
+#![tactic(auto)]
+
 ghost use Rattle.std.specs.Prelude.{◌≡◌, ◌+◌, ◌<◌, ◌≤◌, map, length};
 ghost use Rattle.formulas.specs.Table.{table_rows, table_cells, table_columns};
 ghost use Rattle.infon.specs.declared.Way.TheVariants.{Weaken, Both, Apply, Attach};

@@ -1,4 +1,6 @@
 // Formulas in words, from the file and its node table: what is still to be written waits in a row, what comes next at its end.
+#![tactic(auto)]
+
 ghost use Rattle.std.specs.Prelude.{◌≡◌, true, ◌++◌, ◌+◌, ◌-◌, ◌*◌, ◌≤◌, ◌<◌, length, set};
 ghost use Rattle.infon.specs.Formula.{Formula, nodes as nodes_in};
 ghost use Rattle.nodes.specs.Nodes.{node_at, count_nodes, nodes_of, NodesHeld, kind_of};

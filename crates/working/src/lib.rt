@@ -1,5 +1,7 @@
 // What a run does on an accepted file, whose list stands in the formula table: its own codes, and then the work. All scratch is
 // local.
+#![tactic(auto)]
+
 mod work;
 
 ghost use Rattle.working.specs.Working.{Acceptable, Proceeds};

@@ -1,4 +1,6 @@
 // Writing text into a buffer: a number in decimal, the word for an answer, the line of a query and that of a refusal.
+#![tactic(auto)]
+
 ghost use Rattle.std.specs.Prelude.{◌++◌, ◌+◌, ◌≤◌, length};
 ghost use Rattle.writing.specs.Placed.{Put, PutSome, Prints};
 ghost use Rattle.writing.specs.Texts.{decimal_of, word_of, line_of, printed_refusal};

@@ -1,0 +1,10 @@
+use Prim.Native.Nat.{◌-◌}
+use Rattle.nodes.specs.Nodes.{node_rows}
+use Rattle.columns.proofs.Steps.{form_row, form_few, form_table, Going, going_begins, going_row, going_on, going_over}
+use Rattle.columns.proofs.form_number.Given as goal
+
+abbrev pub invariant-loop-kind : goal.invariant-loop-kind
+invariant-loop-kind l = Going l.nodes l.cand l.j l.m l.at l.form l.kind
+
+abbrev pub decreases-loop-kind : goal.decreases-loop-kind
+decreases-loop-kind l = node_rows - l.at

@@ -1,0 +1,63 @@
+-- `twins::are_twins` meets its contract: each test that fails shows the nodes apart, and where all pass the principals decide.
+use native.Mathlib.Omega.{arith}
+use Prim.Native.Nat.{◌<◌}
+use mathlib.Core.Path.{sym, ◌∙◌, ap₂}
+use Rattle.prefix.specs.declared.Prefix.{Prefix}
+use Rattle.prefix.specs.Places.{used}
+use Rattle.prefix.proofs.Shown.{count_few, table_long, readable}
+use Rattle.twins.specs.Twins.{same_places}
+use Rattle.twins.proofs.Same.{depths_apart, texts_fail, texts_pass, places_asked}
+use Rattle.twins.proofs.are_twins.Goals as goal
+
+pub cell_at-requires : goal.cell_at-requires
+cell_at-requires c =
+    let row-i : c.args.i < 1024 = omega (arith, count_few _ _ c.requires.0, c.requires.1.0) in
+    let s = c in record { inside = (omega arith, row-i); whole = table_long _ _ s.requires.0 }
+
+pub cell_at-requires-2 : goal.cell_at-requires-2
+cell_at-requires-2 c =
+    let row-j : c.args.j < 1024 = omega (arith, count_few _ _ c.requires.0, c.requires.1.1) in
+    let s = c in record { inside = (omega arith, row-j); whole = table_long _ _ s.requires.0 }
+
+pub returns-then-cell_at : goal.returns-then-cell_at
+returns-then-cell_at c =
+    let s = c in
+    sym
+    (depths_apart _ _ s.requires.0 s.args.i s.args.j s.requires.1.0 s.requires.1.1 c.cell_at.ensures c.cell_at-2.ensures
+    c.if-cell_at.true)
+
+pub returns-then-not-are_alike : goal.returns-then-not-are_alike
+returns-then-not-are_alike c =
+    let compared = c in
+    let s = c in
+    sym
+    (texts_fail _ _ s.requires.0 s.args.i s.args.j s.requires.1.0 s.requires.1.1 _ _ _ compared.text_of-mine.ensures
+    compared.text_of-other.ensures compared.are_alike.ensures (c.if-not-are_alike.true))
+
+pub prefix_of-p-requires : goal.prefix_of-p-requires
+prefix_of-p-requires c =
+    let s = c in
+    readable _ _ s.requires.0 s.args.i s.requires.1.0
+
+pub prefix_of-q-requires : goal.prefix_of-q-requires
+prefix_of-q-requires c =
+    let s = c in
+    readable _ _ s.requires.0 s.args.j s.requires.1.1
+
+pub same_principals-requires : goal.same_principals-requires
+same_principals-requires c =
+    let s = c in
+    rw (c.prefix_of-p.ensures, c.prefix_of-q.ensures)
+    (places_asked _ _ s.requires.0 s.args.i s.args.j s.requires.1.0 s.requires.1.1
+    c.cell_at.ensures c.cell_at-2.ensures
+    c.if-cell_at.false)
+
+pub returns : goal.returns
+returns c =
+    let compared = c in
+    let s = c in
+    c.same_principals.ensures
+    ∙ ap₂ (λ (p q : Prefix). same_places s.args.file.now s.args.nodes.now (used p) (used q)) c.prefix_of-p.ensures c.prefix_of-q.ensures
+    ∙ sym
+    (texts_pass _ _ s.requires.0 s.args.i s.args.j s.requires.1.0 s.requires.1.1 _ _ _ compared.text_of-mine.ensures
+    compared.text_of-other.ensures compared.are_alike.ensures (c.if-not-are_alike.false))
