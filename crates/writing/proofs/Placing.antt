@@ -4,27 +4,21 @@ use Prim.Native.Nat.{ℕ, zero, suc, ◌+◌, ◌-◌, ◌≤◌}
 use native.Mathlib.Nat.{add-zero}
 use native.Mathlib.Omega.{arith}
 use mathlib.Core.Path.{◌≡◌, refl, sym, ◌∙◌, ap, subst}
-use mathlib.Core.List.{List, [], ◌∷◌, ◌++◌, append-nil}
-use lib.ListN.{length, take, drop, length-append, length-take, length-drop, take-append-drop}
-use lib.Seq.{take_all, take-nil, take-length, drop-length, drop-drop, length-take-le}
+use mathlib.Core.List.{List, [], ◌∷◌, ◌++◌}
+use lib.ListN.{length, take, drop, length-append, length-take, take-append-drop}
+use borrow.Rule.Slice.PartMut.{put_mid}
+use lib.Seq.{take_all, take-nil, drop-drop, length-take-le}
 use Rattle.infon.specs.Run.{written}
 use Rattle.infon.proofs.Cuts.{length_written, written_more}
 use Rattle.writing.specs.Placed.{Put, PutSome, Prints}
 
--- the whole of a row, with a text copied over its front
-front_copied : (row text : List ℕ) (k : ℕ) → k ≡ length row
-    → (take (length text) text ++ drop (length text) (take k row)) ++ drop k row ≡ text ++ drop (length text) row
-front_copied row text k e = rw (e, take-length text, take-length row, drop-length, append-nil)
-
--- a text copied over the front of the buffer's tail, which then comes back
-pub copied_written : (buffer text after : List ℕ) (at : ℕ)
-    → after ≡ take (length text) text ++ drop (length text) (take (length buffer - at) (drop at buffer))
-    → take at buffer ++ (after ++ drop (length buffer - at) (drop at buffer)) ≡ written buffer at text
+-- a text copied over a part of the buffer, which then comes back
+pub copied_written : (buffer text after : List ℕ) (at : ℕ) → after ≡ text
+    → put_mid at (at + length text - at) buffer after ≡ written buffer at text
 unfolding written
 copied_written buffer text after at e =
-    ap (λ (l : List ℕ). take at buffer ++ (l ++ drop (length buffer - at) (drop at buffer))) e
-    ∙ ap (λ (l : List ℕ). take at buffer ++ l) (front_copied (drop at buffer) text (length buffer - at) (sym (length-drop at buffer)))
-    ∙ ap (λ (l : List ℕ). take at buffer ++ (text ++ l)) (drop-drop (length text) at buffer)
+    let n : at + length text - at ≡ length text = omega arith in
+    rw (e, n) (ap (λ (l : List ℕ). take at buffer ++ (text ++ l)) (drop-drop (length text) at buffer))
 
 -- the buffer keeps its length
 pub put_length : {text : List ℕ} {at : ℕ} {b₀ b₁ : List ℕ} {r : ℕ} → Put text at b₀ r b₁ → at + length text ≤ length b₀ → length b₁ ≡ length b₀

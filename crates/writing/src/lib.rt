@@ -10,8 +10,9 @@ pub fn put(text: &[u8], out: &mut [u8], at: usize) -> usize
     requires { at + length text.now ≤ length out.old }
     ensures { Put text.now at out.old result out.new }
 {
-    let n = bytes::copy(text, &mut out[at..]);
-    at + n
+    let behind = at + text.len();
+    out[at..behind].copy_from_slice(text);
+    behind
 }
 
 // Puts as much of a text as there is room for into out from a place on, and returns the place after it.
