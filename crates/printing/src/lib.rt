@@ -76,6 +76,7 @@ fn print_answers(file: &[u8], asked: bool, answers: &[u8], out: &mut [u8]) -> us
 }
 
 // Prints what a run of a file found, the refusal alone or a line for each query, and returns the length of the text.
+#[tactic(auto, unfolding(crate::specs::Printed::printed_run))]
 pub fn print_run(
     file: &[u8],
     asked: bool,
