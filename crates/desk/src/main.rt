@@ -8,8 +8,9 @@ ghost use Rattle.settling.specs.Settled.{text_bytes};
 ghost use Rattle.desk.specs.Desk.{desk_text};
 
 use input::Got;
-use libc::{STDIN_FILENO, STDOUT_FILENO};
 use settling::{EVERY_RECORD, JOURNAL_BYTES, TEXT_BYTES};
+use std::io;
+use std::process::ExitCode;
 
 // Runs a policy file from an empty journal to the end, puts what is to be printed into text, and returns its length.
 fn answer(file: &[u8], text: &mut [u8]) -> usize
@@ -21,17 +22,23 @@ fn answer(file: &[u8], text: &mut [u8]) -> usize
     settled.length
 }
 
+// Says on standard error what failed, and why.
+fn fails(rt: &impl Eprint, what: &str, why: io::Error) -> ExitCode {
+    let _ = eprintln!(rt; "{what}: {why}");
+    ExitCode::FAILURE
+}
+
 // One byte more than a policy file may have is read, so that a longer one is seen to be too long.
-fn main() {
+fn main(rt: HostRuntime) -> ExitCode {
     let mut file = [0u8; 32769];
-    let got = input::read_all(STDIN_FILENO, &mut file);
-    let Got::Bytes(n) = got else {
-        os::fail(b"standard input");
-        return;
+    let n = match input::read_all(&mut rt.stdin(), &mut file) {
+        Got::Bytes(n) => n,
+        Got::Failed(why) => return fails(&rt, "standard input", why),
     };
     let mut text = [0u8; TEXT_BYTES];
     let length = answer(&file[..n], &mut text);
-    if !io::write_all(STDOUT_FILENO, &text[..length]) {
-        os::fail(b"standard output");
+    match rt.write_all(&text[..length]) {
+        Ok(()) => ExitCode::SUCCESS,
+        Err(why) => fails(&rt, "standard output", why),
     }
 }

@@ -7,4 +7,4 @@ use Rattle.input.specs.declared.Got.TheVariants.{Bytes, Failed}
 -- the bytes that were read stand at the buffer's start
 abbrev pub Holds : Got → List ℕ → Type 0
 Holds (Bytes n) buffer = IsPrefixLen n buffer
-Holds Failed buffer = Unit
+Holds (Failed error) buffer = Unit

@@ -3,33 +3,34 @@
 
 ghost use Rattle.input.specs.Read.{Holds};
 
-// What reading brought: so many bytes at the buffer's start, or a failure.
+use std::io::{Error, Read};
+
+// What reading brought: so many bytes at the buffer's start, or why it failed.
 #[derive(Drop)]
 pub enum Got {
     Bytes(usize),
-    Failed,
+    Failed(Error),
 }
 
 // Reads once.
-fn read_some(fd: i32, buffer: &mut [u8]) -> Got
+fn read_some<R: Read>(input: &mut R, buffer: &mut [u8]) -> Got
     ensures { Holds result buffer.new }
 {
-    let got = libc::read(fd, buffer);
-    if got < 0 {
-        return Got::Failed;
+    match input.read(buffer) {
+        Ok(n) => Got::Bytes(n),
+        Err(error) => Got::Failed(error),
     }
-    let n = io::count(got, buffer);
-    Got::Bytes(n)
 }
 
 // Reads until the buffer is full or the input ends, joining short reads. Where a read fails, nothing is given back.
-pub fn read_all(fd: i32, buffer: &mut [u8]) -> Got
+pub fn read_all<R: Read>(input: &mut R, buffer: &mut [u8]) -> Got
     ensures { Holds result buffer.new }
 {
     let mut n = 0;
     while n < buffer.len() {
-        let Got::Bytes(more) = read_some(fd, &mut buffer[n..]) else {
-            return Got::Failed;
+        let more = match read_some(input, &mut buffer[n..]) {
+            Got::Bytes(more) => more,
+            Got::Failed(error) => return Got::Failed(error),
         };
         if more == 0 {
             return Got::Bytes(n);

@@ -1,0 +1,9 @@
+-- The count lies within the buffer. The measure is what is left of the buffer: a read that brings nothing ends the loop.
+use Rattle.std.proofs.Common.{length, ◌-◌, ◌≤◌}
+use Rattle.input.proofs.read_all.Given as goal
+
+abbrev pub invariant-loop-n : goal.invariant-loop-n
+invariant-loop-n g l = l.n ≤ length l.buffer
+
+abbrev pub decreases-loop-n : goal.decreases-loop-n
+decreases-loop-n g l = length l.buffer - l.n
