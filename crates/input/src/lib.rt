@@ -4,7 +4,7 @@
 ghost use Rattle.input.specs.Read.{Holds};
 
 // What reading brought: so many bytes at the buffer's start, or a failure.
-#[derive(Drop)]
+#[derive(Clone, Copy)]
 pub enum Got {
     Bytes(usize),
     Failed,
