@@ -25,7 +25,7 @@ returns-then-left-n c =
     not_at_once _ _ _ _ second.cell_at.ensures second.if-cell_at-eq1.false second.cell_at-2.ensures
     c.if-cell_at-eq-TRUTH.false in
     let third = c in
-    by_left _ _ _ _ (tried) third.stronger-weaken.ensures third.if-weaken-n.false c.IsWhole-with.ensures
+    by_left _ _ _ _ (tried) third.stronger-weaken.ensures third.if-weaken-n.false c.whole_with-left.ensures
     c.if-left-n.true
 
 pub returns-then-right-n : goal.returns-then-right-n
@@ -36,7 +36,7 @@ returns-then-right-n c =
     c.if-cell_at-eq-TRUTH.false in
     let fourth = c in
     let third = fourth in
-    past_left _ _ _ _ (tried) third.stronger-weaken.ensures third.if-weaken-n.false fourth.IsWhole-with.ensures
+    past_left _ _ _ _ (tried) third.stronger-weaken.ensures third.if-weaken-n.false fourth.whole_with-left.ensures
     fourth.if-left-n.false (by_right _ _ _ _ c.whole_with-right.ensures c.if-right-n.true)
 
 pub returns : goal.returns
@@ -48,5 +48,5 @@ returns c =
     let fifth = c in
     let fourth = fifth in
     let third = fourth in
-    past_left _ _ _ _ (tried) third.stronger-weaken.ensures third.if-weaken-n.false fourth.IsWhole-with.ensures
+    past_left _ _ _ _ (tried) third.stronger-weaken.ensures third.if-weaken-n.false fourth.whole_with-left.ensures
     fourth.if-left-n.false (past_right _ _ _ _ fifth.whole_with-right.ensures fifth.if-right-n.false c.from_parts.ensures)

@@ -10,6 +10,7 @@ use Rattle.formulas.specs.Tests.{leads_to}
 use Rattle.ways.specs.Search.{least_premise}
 use Rattle.ways.proofs.Leads.{weaken_bottom, Walked, walk_found, walk_over, chain_begins, chain_goes_on, weaken_unmarked, weaken_stays, weaken_passes}
 use Rattle.ways.proofs.stronger.Goals as goal
+use Rattle.ways.proofs.stronger.Goals.{then-is_marked+else-weakens, else-is_marked}
 
 pub cell_at-x-requires : goal.cell_at-x-requires
 cell_at-x-requires c = omega arith
@@ -61,8 +62,8 @@ pub loop-p-smaller : goal.loop-p-smaller
 loop-p-smaller c =
     let failed : (let loop = c in
     let a = loop.args in
-    leads_to a.table.now a.n a.marks.now a.f (Weaken loop.loop-p.p) ≡ false) = ⊎_elim (λ w. weaken_stays _ _ _ _ _ w.1.ensures w.2.left)
-    (λ w. weaken_unmarked _ _ _ _ _ c.is_marked.ensures w.left) c.if-is_marked.branch in
+    leads_to a.table.now a.n a.marks.now a.f (Weaken loop.loop-p.p) ≡ false) = elim c.if-is_marked.branch [ then-is_marked+else-weakens w ↦ weaken_stays _ _ _ _ _ w.weakens.ensures w.if-weakens.false
+    | else-is_marked w ↦ weaken_unmarked _ _ _ _ _ c.is_marked.ensures w.if-is_marked.false ] in
     let turn : (let loop = c in
     let a = loop.args in
     Walked (λ (q : ℕ). leads_to a.table.now a.n a.marks.now a.f (Weaken q)) a.table.now 4 (cell a.table.now 4 a.f) a.n
@@ -81,8 +82,8 @@ pub loop-p-preserved : goal.loop-p-preserved
 loop-p-preserved c =
     let failed : (let loop = c in
     let a = loop.args in
-    leads_to a.table.now a.n a.marks.now a.f (Weaken loop.loop-p.p) ≡ false) = ⊎_elim (λ w. weaken_stays _ _ _ _ _ w.1.ensures w.2.left)
-    (λ w. weaken_unmarked _ _ _ _ _ c.is_marked.ensures w.left) c.if-is_marked.branch in
+    leads_to a.table.now a.n a.marks.now a.f (Weaken loop.loop-p.p) ≡ false) = elim c.if-is_marked.branch [ then-is_marked+else-weakens w ↦ weaken_stays _ _ _ _ _ w.weakens.ensures w.if-weakens.false
+    | else-is_marked w ↦ weaken_unmarked _ _ _ _ _ c.is_marked.ensures w.if-is_marked.false ] in
     let turn : (let loop = c in
     let a = loop.args in
     Walked (λ (q : ℕ). leads_to a.table.now a.n a.marks.now a.f (Weaken q)) a.table.now 4 (cell a.table.now 4 a.f) a.n

@@ -7,6 +7,7 @@ use native.Mathlib.Omega.{arith}
 use Rattle.ways.specs.Search.{is_whole, least_whole}
 use Rattle.ways.proofs.Leads.{whole_part, Walked, walk_found, walk_over, chain_begins, chain_goes_on, whole_unmarked, whole_other, whole_passes}
 use Rattle.ways.proofs.whole_with.Goals as goal
+use Rattle.ways.proofs.whole_with.Goals.{then-is_marked+else-has_part, else-is_marked}
 
 pub overflow_add-at : goal.overflow_add-at
 overflow_add-at c = omega arith
@@ -50,8 +51,8 @@ pub loop-p-smaller : goal.loop-p-smaller
 loop-p-smaller c =
     let failed : (let loop = c in
     let a = loop.args in
-    is_whole a.column a.table.now a.n a.marks.now a.f loop.loop-p.p ≡ false) = ⊎_elim (λ w. whole_other _ _ _ _ _ _ w.1.ensures w.2.left)
-    (λ w. whole_unmarked _ _ _ _ _ _ c.is_marked.ensures w.left) c.if-is_marked.branch in
+    is_whole a.column a.table.now a.n a.marks.now a.f loop.loop-p.p ≡ false) = elim c.if-is_marked.branch [ then-is_marked+else-has_part w ↦ whole_other _ _ _ _ _ _ w.has_part.ensures w.if-has_part.false
+    | else-is_marked w ↦ whole_unmarked _ _ _ _ _ _ c.is_marked.ensures w.if-is_marked.false ] in
     let turn : (let loop = c in
     let a = loop.args in
     Walked (is_whole a.column a.table.now a.n a.marks.now a.f) a.table.now a.column a.f a.n
@@ -69,8 +70,8 @@ pub loop-p-preserved : goal.loop-p-preserved
 loop-p-preserved c =
     let failed : (let loop = c in
     let a = loop.args in
-    is_whole a.column a.table.now a.n a.marks.now a.f loop.loop-p.p ≡ false) = ⊎_elim (λ w. whole_other _ _ _ _ _ _ w.1.ensures w.2.left)
-    (λ w. whole_unmarked _ _ _ _ _ _ c.is_marked.ensures w.left) c.if-is_marked.branch in
+    is_whole a.column a.table.now a.n a.marks.now a.f loop.loop-p.p ≡ false) = elim c.if-is_marked.branch [ then-is_marked+else-has_part w ↦ whole_other _ _ _ _ _ _ w.has_part.ensures w.if-has_part.false
+    | else-is_marked w ↦ whole_unmarked _ _ _ _ _ _ c.is_marked.ensures w.if-is_marked.false ] in
     let turn : (let loop = c in
     let a = loop.args in
     Walked (is_whole a.column a.table.now a.n a.marks.now a.f) a.table.now a.column a.f a.n
