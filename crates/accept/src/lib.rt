@@ -10,7 +10,7 @@ ghost use Rattle.accept.specs.Accepted.{accepted_by, Accepts};
 use infon::Verdict;
 
 // What the codes say, and where none applies how many nodes, formulas and queries the file has.
-#[derive(Drop)]
+#[derive(Clone, Copy)]
 pub struct Accepted {
     pub verdict: Verdict,
     pub nodes: usize,

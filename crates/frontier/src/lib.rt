@@ -17,7 +17,7 @@ use members::{insert, least, remove};
 use ways::Least;
 
 // The answer to "The next record, if any".
-#[derive(Drop)]
+#[derive(Clone, Copy)]
 pub enum Next {
     Due(Record),
     Finished,

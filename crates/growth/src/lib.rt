@@ -8,7 +8,7 @@ use infon::RECORD_BYTES;
 use members::WORDS;
 
 // How many records were added, and whether no record is next any more.
-#[derive(Drop)]
+#[derive(Clone, Copy)]
 pub struct Growth {
     pub added: usize,
     pub finished: bool,

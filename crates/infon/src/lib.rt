@@ -4,7 +4,7 @@
 
 
 // The eight ways to a record, rules 1 to 8 in the table's order: each with the numbers of the premises that it has.
-#[derive(Drop)]
+#[derive(Clone, Copy)]
 pub enum Way {
     Hypothesis,
     Given,
@@ -17,7 +17,7 @@ pub enum Way {
 }
 
 // A record: the number of the formula that it is for, and the way to it.
-#[derive(Drop)]
+#[derive(Clone, Copy)]
 pub struct Record {
     pub formula: usize,
     pub way: Way,
@@ -27,7 +27,7 @@ pub struct Record {
 pub const RECORD_BYTES: usize = 9;
 
 // The answer to a query.
-#[derive(Drop)]
+#[derive(Clone, Copy)]
 pub enum Answer {
     No,
     Yes,
@@ -36,7 +36,7 @@ pub enum Answer {
 
 // What a run returns, laid out for C.
 #[repr(C)]
-#[derive(Drop)]
+#[derive(Clone, Copy)]
 pub struct Report {
     pub code: usize,
     pub place: usize,
@@ -48,7 +48,7 @@ pub struct Report {
 
 // What a call for a chain returns, laid out for C.
 #[repr(C)]
-#[derive(Drop)]
+#[derive(Clone, Copy)]
 pub struct Chained {
     pub code: usize,
     pub place: usize,
@@ -56,7 +56,7 @@ pub struct Chained {
 }
 
 // What the codes that a function tries say: none applies, or one with its place.
-#[derive(Drop)]
+#[derive(Clone, Copy)]
 pub enum Verdict {
     Passed,
     Refused { code: usize, place: usize },

@@ -6,7 +6,7 @@ ghost use Rattle.input.specs.Read.{Holds};
 use std::io::{Error, Read};
 
 // What reading brought: so many bytes at the buffer's start, or why it failed.
-#[derive(Drop)]
+#[derive(Clone, Copy)]
 pub enum Got {
     Bytes(usize),
     Failed(Error),

@@ -103,7 +103,7 @@ fn list_node(
 }
 
 // What code 5 says, and how many formulas are listed where it passes.
-#[derive(Drop)]
+#[derive(Clone, Copy)]
 struct Counted {
     verdict: Verdict,
     formulas: usize,
@@ -201,7 +201,7 @@ fn fill_queries(
 }
 
 // What code 5 says of a file, and where it passes L and the number of queries.
-#[derive(Drop)]
+#[derive(Clone, Copy)]
 pub struct Listed {
     pub verdict: Verdict,
     pub formulas: usize,

@@ -11,7 +11,6 @@ use nodes::{ABOVE, DEPTH, KIND, SAID, cell_at};
 pub const PLACES: usize = 4;
 
 // One place: its kind, and the number of its quotation node.
-#[derive(Drop)]
 #[derive(Clone, Copy)]
 pub struct Place {
     pub said: bool,
@@ -19,7 +18,7 @@ pub struct Place {
 }
 
 // So many places as count says are in use.
-#[derive(Drop)]
+#[derive(Clone, Copy)]
 pub struct Prefix {
     pub places: [Place; PLACES],
     pub count: usize,

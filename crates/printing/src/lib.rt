@@ -8,7 +8,7 @@ ghost use Rattle.printing.specs.Printed.{printed_answers, printed_run};
 ghost use Rattle.printing.specs.Turned.{behind_from, Turned, Printable};
 
 // How far the text has come: the place behind it, and how many answers stand in it.
-#[derive(Drop)]
+#[derive(Clone, Copy)]
 pub struct Progress {
     pub at: usize,
     pub count: usize,

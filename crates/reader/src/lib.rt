@@ -20,21 +20,21 @@ pub const MARK_LOW: u8 = 0x51;
 pub const NO_PREMISE: usize = 0xFFFF;
 
 // A reader: a journal, and the place where it reads.
-#[derive(Drop)]
+#[derive(Clone, Copy)]
 pub struct Reader<'a> {
     pub journal: &'a [u8],
     pub at: usize,
 }
 
 // What a rule's number and two premises spell: a way, or nothing.
-#[derive(Drop)]
+#[derive(Clone, Copy)]
 enum Rule {
     By(Way),
     Unknown,
 }
 
 // What nine bytes spell: a record, or nothing.
-#[derive(Drop)]
+#[derive(Clone, Copy)]
 pub enum Decoded {
     Record(Record),
     Nothing,

@@ -13,7 +13,7 @@ use remains::{dropped_by, is_begun};
 // What a call came to, laid out for C: the run's report, how many whole records the journal had, what of it was not kept, and the
 // length of the text.
 #[repr(C)]
-#[derive(Drop)]
+#[derive(Clone, Copy)]
 pub struct Settlement {
     pub report: Report,
     pub records: usize,

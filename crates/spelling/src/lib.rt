@@ -11,7 +11,7 @@ ghost use Rattle.spelling.specs.Parsing.{quotation_at, parsed_at, gone_on};
 
 // What begins at a place, by its token: True, a name that ends before `end`, a conjunction, an implication, or a quotation with
 // its principal's bytes, from `start` to before `end`; `Bad` where no formula begins so.
-#[derive(Drop)]
+#[derive(Clone, Copy)]
 pub enum Parsed {
     True,
     Name {
@@ -28,14 +28,14 @@ pub enum Parsed {
 }
 
 // How far a reader of a text has come: the place where the next token begins, and how many formulas are still to be read.
-#[derive(Drop)]
+#[derive(Clone, Copy)]
 pub struct Cursor {
     pub at: usize,
     pub needed: usize,
 }
 
 // One node further: how many formulas are still to be read behind it, and the place behind its own bytes.
-#[derive(Drop)]
+#[derive(Clone, Copy)]
 pub enum Onward {
     Behind(Cursor),
     Stuck,

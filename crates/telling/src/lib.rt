@@ -17,7 +17,7 @@ use formulas::{BASE, PUTS};
 use infon::{Record, Way};
 
 // A formula by the node of its base and by its put places.
-#[derive(Drop)]
+#[derive(Clone, Copy)]
 pub struct Key {
     pub node: usize,
     pub puts: usize,

@@ -10,7 +10,7 @@ use infon::Verdict;
 use spelling::Parsed;
 
 // Where a node begins, and where its line does.
-#[derive(Drop)]
+#[derive(Clone, Copy)]
 pub struct Spot {
     pub at: usize,
     pub line: usize,

@@ -13,7 +13,7 @@ use infon::Way;
 use links::{BOTTOMS, LEFTS, NEXTS, RIGHTS};
 
 // The answer of a search for a way.
-#[derive(Drop)]
+#[derive(Clone, Copy)]
 pub enum Least {
     By(Way),
     Missing,

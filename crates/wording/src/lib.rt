@@ -16,21 +16,21 @@ use nodes::{AND, END, IMPLIES, KIND, NAME, SAID, TRUE, cell_at};
 use prefix::Prefix;
 
 // How far the words have come: the place behind them, and how many items wait.
-#[derive(Drop)]
+#[derive(Clone, Copy)]
 pub struct Progress {
     pub at: usize,
     pub top: usize,
 }
 
 // What waits: a formula, by how and by its node's number, or a word by its number.
-#[derive(Drop)]
+#[derive(Clone, Copy)]
 pub struct Item {
     pub how: u8,
     pub who: usize,
 }
 
 // Two formulas and the word between them.
-#[derive(Drop)]
+#[derive(Clone, Copy)]
 struct Pair {
     how: u8,
     first: usize,

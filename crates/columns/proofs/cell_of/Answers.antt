@@ -36,9 +36,4 @@ returns-in-6 c = c.base_of.ensures ∙ rw c.in-6.is
 
 pub returns-in_default : goal.returns-in_default
 unfolding column_of nothing
-returns-in_default c =
-    let none = c.in-0.rest in
-    let s = c in
-    let last : s.args.column ≡ 5 =
-    omega (arith, s.requires.2, none.1, none.0.1, none.0.0.1, none.0.0.0.1, none.0.0.0.0.1, none.0.0.0.0.0.1) in
-    rw last
+returns-in_default c = let last : c.args.column ≡ 5 = omega (arith, c.requires.2) in rw last

@@ -1,0 +1,9 @@
+use Prim.Native.Nat.{◌-◌, ◌<◌}
+use Rattle.facts.proofs.Sought.{Sought, sought_begin, node_below, line_asked, sought_here, sought_on, further, sought_over}
+use Rattle.facts.proofs.fact_line.Given as goal
+
+abbrev pub invariant-loop-r : goal.invariant-loop-r
+invariant-loop-r l = Sought l.file l.nodes l.b l.puts l.line l.r
+
+abbrev pub decreases-loop-r : goal.decreases-loop-r
+decreases-loop-r l = l.count - l.r

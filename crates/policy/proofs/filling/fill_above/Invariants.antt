@@ -1,0 +1,9 @@
+use Prim.Native.Nat.{◌-◌}
+use Rattle.policy.proofs.Above.{AboveTo, above_begin, above_over, down_here, forth_reads, forth_depth, forth_turn}
+use Rattle.policy.proofs.filling.fill_above.Given as goal
+
+abbrev pub invariant-loop-i : goal.invariant-loop-i
+invariant-loop-i l = AboveTo l.initial.nodes l.count l.nodes l.i
+
+abbrev pub decreases-loop-i : goal.decreases-loop-i
+decreases-loop-i l = l.count - l.i

@@ -1,0 +1,9 @@
+use Prim.Native.Nat.{◌-◌}
+use Rattle.policy.proofs.Ends.{EndsTo, ends_begin, ends_over, back_here, back_reads, back_small, back_turn}
+use Rattle.policy.proofs.filling.fill_ends.Given as goal
+
+abbrev pub invariant-loop-i : goal.invariant-loop-i
+invariant-loop-i l = EndsTo l.initial.nodes l.count l.nodes l.i
+
+abbrev pub decreases-loop-i : goal.decreases-loop-i
+decreases-loop-i l = l.i

@@ -1,0 +1,10 @@
+use Prim.Native.Nat.{◌-◌}
+use lib.ListN.{length}
+use Rattle.policy.proofs.Stages.{kind_small, SpotsTo, spots_begin, spots_over, spots_here, spots_end, spots_later, spots_turn}
+use Rattle.policy.proofs.filling.fill_spots.Given as goal
+
+abbrev pub invariant-loop-at : goal.invariant-loop-at
+invariant-loop-at l = SpotsTo l.file l.initial.nodes l.nodes l.at l.line l.i
+
+abbrev pub decreases-loop-at : goal.decreases-loop-at
+decreases-loop-at l = length l.file - l.at

@@ -1,0 +1,21 @@
+-- `ways::condition` meets its contract: each branch is a law of `Pairs`.
+use mathlib.Core.Path.{sym, ◌∙◌}
+use Rattle.ways.proofs.Pairs.{condition_found, condition_unmarked, condition_other, condition_free}
+use Rattle.ways.proofs.condition.Goals as goal
+
+pub returns-then-is_marked-2 : goal.returns-then-is_marked-2
+returns-then-is_marked-2 c = let second = c in
+    let kind = second in
+    let first = kind in
+    condition_found _ _ _ _ (sym first.is_marked.ensures ∙ first.if-is_marked.true)
+    (sym kind.cell_at.ensures ∙ kind.if-cell_at-eq-IMPLICATION.true) second.cell_at-p.ensures (sym second.is_marked-then-cell_at-eq-IMPLICATION.ensures ∙ c.if-is_marked-2.true)
+
+pub returns-else-is_marked-2 : goal.returns-else-is_marked-2
+returns-else-is_marked-2 c = condition_unmarked _ _ _ _ c.cell_at-p.ensures (sym c.is_marked-then-cell_at-eq-IMPLICATION.ensures ∙ c.if-is_marked-2.false)
+
+pub returns-else-cell_at-eq-IMPLICATION : goal.returns-else-cell_at-eq-IMPLICATION
+returns-else-cell_at-eq-IMPLICATION c = condition_other _ _ _ _ (sym c.is_marked.ensures ∙ c.if-is_marked.true)
+    (λ same. c.if-cell_at-eq-IMPLICATION.false (c.cell_at.ensures ∙ same))
+
+pub returns-else-is_marked : goal.returns-else-is_marked
+returns-else-is_marked c = condition_free _ _ _ _ (sym c.is_marked.ensures ∙ c.if-is_marked.false)

@@ -1,0 +1,10 @@
+use Prim.Native.Nat.{◌-◌, ◌<◌}
+use Rattle.ways.specs.Search.{is_whole, least_whole}
+use Rattle.ways.proofs.Leads.{whole_part, Walked, walk_found, walk_over, chain_begins, chain_goes_on, whole_unmarked, whole_other, whole_passes}
+use Rattle.ways.proofs.whole_with.Given as goal
+
+abbrev pub invariant-loop-p : goal.invariant-loop-p
+invariant-loop-p l = Walked (is_whole l.column l.table l.n l.marks l.f) l.table l.column l.f l.n l.p
+
+abbrev pub decreases-loop-p : goal.decreases-loop-p
+decreases-loop-p l = l.n - l.p
