@@ -12,24 +12,24 @@ loop-i-init c = λ file held below. inwards_begin (nodes_of file) _ below
 
 pub cell_at-requires : goal.cell_at-requires
 cell_at-requires c =
-    let here : {i : ℕ} → invariant_loop c.args.nodes.now c.args.r c.args.r i → i < 1024 = λ inv.
     let pre = c.requires in
-    omega (arith, (inv pre.file pre.held pre.below).below, count_few _ _ pre.held) in
-    let s = c in record { inside = (omega arith, here c.loop-i.invariant); whole = table_long _ _ s.requires.held }
+    let row : c.loop-i.i < 1024 =
+    omega (arith, (c.loop-i.invariant pre.file pre.held pre.below).below, count_few _ _ pre.held) in
+    record { inside = (omega arith, row); whole = table_long _ _ c.requires.held }
 
 pub overflow_add-i : goal.overflow_add-i
 overflow_add-i c =
-    let here : {i : ℕ} → invariant_loop c.args.nodes.now c.args.r c.args.r i → i < 1024 = λ inv.
     let pre = c.requires in
-    omega (arith, (inv pre.file pre.held pre.below).below, count_few _ _ pre.held) in
-    let row = here c.loop-i.invariant in search (rules, row)
+    let row : c.loop-i.i < 1024 =
+    omega (arith, (c.loop-i.invariant pre.file pre.held pre.below).below, count_few _ _ pre.held) in
+    search (rules, row)
 
 pub loop-i-smaller : goal.loop-i-smaller
 loop-i-smaller c =
-    let here : {i : ℕ} → invariant_loop c.args.nodes.now c.args.r c.args.r i → i < 1024 = λ inv.
     let pre = c.requires in
-    omega (arith, (inv pre.file pre.held pre.below).below, count_few _ _ pre.held) in
-    let row = here c.loop-i.invariant in omega arith
+    let row : c.loop-i.i < 1024 =
+    omega (arith, (c.loop-i.invariant pre.file pre.held pre.below).below, count_few _ _ pre.held) in
+    omega arith
 
 pub loop-i-preserved : goal.loop-i-preserved
 loop-i-preserved c =
