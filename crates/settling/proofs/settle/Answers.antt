@@ -2,7 +2,7 @@
 use Prim.Native.Nat.{◌≤◌}
 use native.Mathlib.Omega.{arith}
 use mathlib.Core.Path.{◌≡◌, sym, ◌∙◌}
-use lib.ListN.{length}
+use lib.ListN.{length, drop}
 use lib.Seq.{length-take-le}
 use Rattle.settling.proofs.Telling.{room_few}
 use Rattle.settling.proofs.Settling.{zeros, share_within, share_counts, share_short, share_back, shows, settled_so}
@@ -23,14 +23,14 @@ slice_bounds-answers-end-2 c =
     let room_inside : c.answer_room-room.result ≤ 1024 = omega (arith, room_few c.args.text.now, c.answer_room-room.ensures) in
     let row-long : length c.run-report.new.answers ≡ c.answer_room-room.result = c.run-report.auto.answers ∙ length-take-le c.answer_room-room.result (zeros 1024) (room_inside) in
     let ran = c in
-    share_within ran.run-report.new.answers (behind ran) ran.answer_room-room.result (row-long)
+    share_within ran.run-report.new.answers (drop ran.answer_room-room.result (zeros 1024)) ran.answer_room-room.result (row-long)
 
 pub slice_bounds-show-end : goal.slice_bounds-show-end
 slice_bounds-show-end c =
     let room_inside : c.answer_room-room.result ≤ 1024 = omega (arith, room_few c.args.text.now, c.answer_room-room.ensures) in
     let row-long : length c.run-report.new.answers ≡ c.answer_room-room.result = c.run-report.auto.answers ∙ length-take-le c.answer_room-room.result (zeros 1024) (room_inside) in
     let ran = c in
-    share_counts ran.run-report.new.answers (behind ran) ran.answer_room-room.result (row-long)
+    share_counts ran.run-report.new.answers (drop ran.answer_room-room.result (zeros 1024)) ran.answer_room-room.result (row-long)
 
 pub show-length-requires : goal.show-length-requires
 show-length-requires c =
@@ -40,7 +40,7 @@ show-length-requires c =
     let room = ran in
     let start = room in
     shows start.args.file.now start.args.journal.now _ _ start.args.asked start.args.text.now room.answer_room-room.result
-    room.answer_room-room.ensures ran.run-report.result _ _ ran.run-report.ensures _ (share_short ran.run-report.new.answers (behind ran) room.answer_room-room.result (row-long) (room_inside))
+    room.answer_room-room.ensures ran.run-report.result _ _ ran.run-report.ensures _ (share_short ran.run-report.new.answers (drop ran.answer_room-room.result (zeros 1024)) room.answer_room-room.result (row-long) (room_inside))
 
 pub returns : goal.returns
 returns c =
