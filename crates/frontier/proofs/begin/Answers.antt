@@ -1,0 +1,15 @@
+-- `frontier::begin` meets its contract. The loop's invariant: what is wanted in all is what is wanted so far and what is wanted from here on.
+use Prim.Native.Nat.{◌-◌}
+use Rattle.frontier.proofs.Chained.{taking_begins, taking_turn, taking_over}
+use Rattle.frontier.proofs.begin.Goals as goal
+
+pub loop-i-init : goal.loop-i-init
+loop-i-init c = taking_begins _ _ _ _
+
+pub loop-i-preserved : goal.loop-i-preserved
+loop-i-preserved c =
+    let turn = c in
+    taking_turn _ _ _ turn.loop-i.invariant turn.loop-i-test.true c.take_in.ensures
+
+pub returns : goal.returns
+returns c = taking_over _ _ _ c.loop-i.invariant c.loop-i-test.false

@@ -1,0 +1,20 @@
+-- `settling::show` meets its contract: by the text's length.
+use native.Mathlib.Omega.{arith}
+use Rattle.settling.proofs.Settling.{shown_nothing, shown, printable}
+use Rattle.settling.proofs.show.Goals as goal
+
+pub returns-then-text-lt-TEXT_BYTES : goal.returns-then-text-lt-TEXT_BYTES
+returns-then-text-lt-TEXT_BYTES c =
+    let a = c.args in
+    shown_nothing a.asked a.file.now a.code a.place a.answers.now a.text.now c.if-text-lt-TEXT_BYTES.true
+
+pub print_run-requires : goal.print_run-requires
+print_run-requires c =
+    let s = c in
+    let a = s.args in record { printable = λ accepted. printable a.file.now a.code a.answers.now a.text.now s.requires c.if-text-lt-TEXT_BYTES.false accepted; room = omega arith }
+
+pub returns : goal.returns
+returns c =
+    let printed = c in
+    let a = printed.args in
+    shown a.asked a.file.now a.code a.place a.answers.now a.text.now printed.if-text-lt-TEXT_BYTES.false _ _ printed.print_run.ensures
