@@ -7,7 +7,7 @@
  * BEFORE YOU ACT ON A YES, bring the first `used` bytes of the journal to safety: they hold the record that the yes rests on. The
  * first call has `used` 0; each later one has those bytes at the front of its journal buffer, and their number as `used`.
  *
- * Linking, on x86-64: `rt staticlib brimusket` writes target/staticlib/libbrimusket.a, and
+ * Linking, on x86-64: `bin/library` writes target/staticlib/libbrimusket.a, and
  *     cc -I include yours.c target/staticlib/libbrimusket.a
  * is all; README.md, "From C or Rust", has the same for Rust. docs/CODES.md says what each code means. */
 #ifndef BRIMUSKET_H

@@ -12,7 +12,7 @@ fn main() {
     let place = library.display();
     assert!(
         library.is_file(),
-        "no library at {place}: make it with 'rt staticlib brimusket' or call bin/brimusket"
+        "no library at {place}: make it with 'bin/library' or call bin/brimusket"
     );
     println!("cargo:rustc-link-search=native={}", folder.display());
     println!("cargo:rustc-link-lib=static=brimusket");

@@ -29,7 +29,8 @@ pub fn groups() -> Vec<Group> {
         } else if let Some((name, on)) = line.split_once(':') {
             let group = groups.last_mut().expect("a comment line before it");
             group.crates.push(Crate {
-                name: name.into(),
+                // The boundary for C is marked as a static library.
+                name: name.strip_suffix(" staticlib").unwrap_or(name).into(),
                 on: on.split_whitespace().map(String::from).collect(),
             });
         }

@@ -16,7 +16,7 @@ pub fn program(name: &str) -> PathBuf {
             "target/cargo/x86_64-unknown-linux-gnu/release",
             "bin/brimusket --version",
         ),
-        _ => ("target/bin", "rt check desk"),
+        _ => ("crates/desk/out", "rt ci"),
     };
     let built = Path::new(folder).join(name);
     let variable = format!("BRIMUSKET_{}", name.to_uppercase());

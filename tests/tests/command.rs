@@ -11,14 +11,22 @@ use std::path::{Path, PathBuf};
 use std::process::{Child, Command, Output, Stdio};
 use std::sync::atomic::{AtomicUsize, Ordering};
 
-/// The prover: it takes all of its input, names two crates, and notes the call.
+/// The prover: it takes all of its input, names two crates, and notes the call, which
+/// is made in the crate's folder. What it builds there is the library.
 const RT: &str = r#"#!/bin/sh
 cat >/dev/null
-echo "rt $*" >>calls
-[ ! -e broken ] || exit 1
+echo "rt $*" >>../../calls
 echo 'enum infon::Way: proved'
-echo 'rt: infon proved (7 s)'
-echo 'rt: brimusket proved (2 s)'
+echo 'crate infon: modules loaded=0 checked=7'
+echo 'logic=proved functions=0'
+echo 'crate brimusket: modules loaded=7 checked=2'
+if [ -e ../../broken ]; then
+    echo 'logic=not-proved'
+    exit 1
+fi
+echo 'logic=proved functions=3'
+mkdir -p out
+echo "$PWD" >out/libbrimusket.a
 "#;
 
 /// The builder: it makes a program that shows its words, its process and its
@@ -39,6 +47,15 @@ END
 chmod +x $folder/brimusket
 "#;
 
+/// A clock that is read when the prover begins and behind each crate: it shows the
+/// seconds in a file, one after the other and round again.
+const DATE: &str = r#"#!/bin/sh
+cd "$(dirname "$0")"
+read -r now later <seconds
+echo "$later $now" >seconds
+echo "$now"
+"#;
+
 /// What tells the kind of the machine.
 const X86_64: &str = "#!/bin/sh\necho x86_64\n";
 const AARCH64: &str = "#!/bin/sh\necho aarch64\n";
@@ -55,17 +72,21 @@ impl Repository {
         let count = COUNT.fetch_add(1, Ordering::Relaxed);
         let name = format!("command {} {count}", std::process::id());
         let repository = Repository(env::temp_dir().join(name));
-        for folder in ["bin", "tools", "crates/infon", "rust"] {
+        for folder in ["bin", "tools", "crates/infon", "crates/brimusket", "rust"] {
             fs::create_dir_all(repository.0.join(folder)).expect("a folder");
         }
         for file in ["crates.txt", "Cargo.toml", "crates/infon/a.rt"] {
             fs::write(repository.0.join(file), "").expect("a file");
         }
-        let command = fs::read(root().join("bin/brimusket")).expect("the command");
-        repository.program("bin/brimusket", &command);
+        for name in ["bin/brimusket", "bin/library"] {
+            let command = fs::read(root().join(name)).expect("the command");
+            repository.program(name, &command);
+        }
         repository.program("tools/rt", RT.as_bytes());
         repository.program("tools/cargo", CARGO.as_bytes());
         repository.program("tools/uname", X86_64.as_bytes());
+        repository.program("tools/date", DATE.as_bytes());
+        repository.program("tools/seconds", b"100 107 109\n");
         repository
     }
 
@@ -114,7 +135,7 @@ impl Drop for Repository {
     }
 }
 
-const BUILD: &str = "rt check brimusket\nrt staticlib brimusket\n\
+const BUILD: &str = "rt lib\n\
                      cargo build --offline --release --target x86_64-unknown-linux-gnu --package brimusket\n";
 
 /// The program alone answers: by its words, its input and its status, and it is

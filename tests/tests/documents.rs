@@ -2,11 +2,12 @@
 #![cfg(feature = "proved")]
 
 use against::journals;
+use against::night::Folder;
 use against::workspace::{program, root};
 use std::fs;
 use std::io::Write;
 use std::os::unix::fs::symlink;
-use std::path::{Path, PathBuf};
+use std::path::Path;
 use std::process::{Command, Stdio};
 
 /// The blocks of a document that open with this line, without their fences.
@@ -39,15 +40,12 @@ fn examples(readme: &str) -> Vec<(&str, &str)> {
     shown.collect()
 }
 
-/// A folder in which the root's commands and examples are found, and no files of
-/// earlier calls.
-fn fresh_folder(name: &str) -> PathBuf {
-    let folder = Path::new(env!("CARGO_TARGET_TMPDIR")).join(name);
-    let _ = fs::remove_dir_all(&folder);
-    fs::create_dir(&folder).expect("a new folder");
+/// A folder in which the root's commands and examples are found.
+fn folder_with_commands() -> Folder {
+    let folder = Folder::new();
     for part in ["bin", "examples"] {
         let whole = root().canonicalize().expect("the root").join(part);
-        symlink(whole, folder.join(part)).expect("a link");
+        symlink(whole, folder.path(part)).expect("a link");
     }
     folder
 }
@@ -85,11 +83,11 @@ fn the_examples_of_the_readme_print_what_it_says() {
     let readme = fs::read_to_string(root().join("README.md")).expect("README.md");
     let examples = examples(&readme);
     assert_eq!(examples.len(), 3);
-    let folder = fresh_folder("readme-examples");
+    let folder = folder_with_commands();
     for _ in 0..2 {
         for (command, expected) in &examples {
             let printed = (Some(0), expected.to_string());
-            assert_eq!(shell(command, &folder), printed, "{command}");
+            assert_eq!(shell(command, &folder.0), printed, "{command}");
         }
     }
 }
