@@ -2,11 +2,10 @@
 -- Assumes nothing.
 use Prim.Native.Nat.{ℕ}
 use mathlib.Core.Path.{◌≡◌, sym, ◌∙◌, ap}
-use mathlib.Core.List.{List, [], ◌∷◌, ◌++◌}
+use mathlib.Core.List.{List, []}
 use Rattle.infon.specs.declared.Chained.{Chained}
-use Rattle.infon.specs.declared.Verdict.{Verdict}
 use Rattle.infon.specs.declared.Verdict.TheVariants.{Refused}
-use Rattle.infon.specs.Codes.{tried, settled}
+use Rattle.infon.specs.Codes.{settled}
 use Rattle.infon.specs.Run.{file_codes, file_verdict}
 use Rattle.infon.specs.Chain.{ChainOutcome, chain_refusal, chain}
 use Rattle.infon.proofs.Tried.{stop_at, tried_append}

@@ -1,5 +1,5 @@
 -- Which line of a file says a formula as a fact.
-use Rattle.std.specs.Prelude.{ℕ, suc, ◌≡◌, Bool, true, false, cond, List, [], ◌∷◌}
+use Rattle.std.specs.Prelude.{ℕ, suc, ◌≡◌, Bool, false, cond, List, [], ◌∷◌}
 use Rattle.infon.specs.Formula.{Formula, same}
 use Rattle.infon.specs.Policy.{Sentence, hypothesis, query, Entry}
 use Rattle.nodes.specs.Nodes.{count_nodes, nodes_of}

@@ -6,7 +6,6 @@ use mathlib.Core.Logic.{⊎_elim}
 use mathlib.Core.Bool.{Bool, true, false, cond, ◌&&◌, not}
 use mathlib.Core.List.Memᴰ
 use mathlib.Core.List.{List, [], ◌++◌, Memᴰ}
-use mathlib.Core.List
 use native.Mathlib.Omega.{arith}
 use lib.Dec.{ltb, eqb}
 use borrow.Author.Tests.{eqb-true, eqb-false}

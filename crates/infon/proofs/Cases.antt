@@ -1,7 +1,7 @@
 -- 01, "From the desk, on both sides": the starred cases as one table, and 02's chain on the second. A row that is wrong is refused at
 -- its own place.
 -- Assumes nothing.
-use Prim.Native.Nat.{ℕ, zero, suc, ◌+◌, ◌/◌, ◌%◌, ◌^◌}
+use Prim.Native.Nat.{ℕ, zero, suc, ◌/◌, ◌%◌, ◌^◌}
 use Prim.Native.String.{String}
 use mathlib.Core.Path.{◌≡◌, refl}
 use mathlib.Core.Bool.{Bool, true, false}

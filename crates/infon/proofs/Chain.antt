@@ -1,12 +1,12 @@
 -- 02, M-100: a call for a chain gives the first code of its row whose rule holds, and changes nothing then; where none holds it lends
 -- the query's chain, the one row of which all that 02 says holds, and a journal of its own.
 -- Assumes nothing.
-use Prim.Native.Nat.{ℕ, zero, suc, ◌+◌, ◌*◌, ◌/◌, ◌≤◌, ◌<◌}
+use Prim.Native.Nat.{ℕ, zero, suc, ◌+◌, ◌*◌, ◌≤◌, ◌<◌}
 use native.Mathlib.Nat.{le_refl}
 use native.Mathlib.Omega.{arith}
 use mathlib.Core.Path.{◌≡◌, refl, sym, ◌∙◌, ap, subst}
-use mathlib.Core.Logic.{◌⊎◌, inl, inr, ⊎_elim}
-use mathlib.Core.Bool.{Bool, true, false, ◌||◌, not}
+use mathlib.Core.Logic.{◌⊎◌, ⊎_elim}
+use mathlib.Core.Bool.{true, ◌||◌, not}
 use mathlib.Core.List.Memᴰ
 use mathlib.Core.List.{List, [], ◌∷◌, ◌++◌}
 use lib.ListN.{length, take, drop, get_or}
@@ -14,14 +14,13 @@ use lib.Seq.{take_at, take-length, drop_at}
 use lib.Dec.{ltb, eqb}
 use borrow.Author.Tests.{ltb-true, ltb-false, lt-ltb, eq-eqb, eqb-true, eqb-false, not-true, not-false}
 use Rattle.infon.specs.declared.Record.{Record}
-use Rattle.infon.specs.declared.Chained.{Chained}
 use Rattle.infon.specs.declared.Verdict.{Verdict}
-use Rattle.infon.specs.declared.Verdict.TheVariants.{Passed, Refused}
+use Rattle.infon.specs.declared.Verdict.TheVariants.{Passed}
 use Rattle.infon.specs.Formula.{Formula}
-use Rattle.infon.specs.Codes.{and_then, when, tried, First, None}
+use Rattle.infon.specs.Codes.{and_then, tried, First, None}
 use Rattle.infon.specs.Policy.{entries_of, queries_of, hypotheses_of}
 use Rattle.infon.specs.Listing.{list_of}
-use Rattle.infon.specs.Journal.{is_for, record_bytes, spelled_all, whole_records, kept_after, kept_of}
+use Rattle.infon.specs.Journal.{record_bytes, spelled_all, whole_records, kept_after, kept_of}
 use Rattle.infon.specs.Reasons.{reasons, IsChain}
 use Rattle.infon.specs.Run.{file_codes, file_verdict, is_on_record, written, code7, run}
 use Rattle.infon.specs.Chain.{query_of, code31, code32, code33, ChainOutcome, chain_refusal, lent, chain}
@@ -30,7 +29,7 @@ use Rattle.infon.proofs.Rows.{or-true, true_or, or_false_both, some_of_witness, 
 use Rattle.infon.proofs.Same.{same_eq}
 use Rattle.infon.proofs.Listed.{numbered_injective, code5_passed}
 use Rattle.infon.proofs.Codec.{length_spelled_all, whole_records_cong}
-use Rattle.infon.proofs.Grown.{GoodRow, kept_of_spelled}
+use Rattle.infon.proofs.Grown.{kept_of_spelled}
 use Rattle.infon.proofs.Reasons.{Once, reasons_chain, chain_reasons, chain_good, own_stands}
 use Rattle.infon.proofs.Tried.{when_passed, and_then_passed, tried_append, Says, Speaks, silent, speaks, speaks_append, given_or_none, none_given, first_numbered, refuses, passes}
 use Rattle.infon.proofs.Refusals.{tests, compares, not_less, says7, file_speaks, accepted_passes, none_accepted, LetsPass, lets_pass_none}

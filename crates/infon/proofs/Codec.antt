@@ -1,7 +1,7 @@
 -- Records and their nine bytes: what is spelled is read back, and what is read was spelled so.
 -- Assumes nothing.
 use Prim.Native.Nat.{ℕ, zero, suc, ◌+◌, ◌*◌, ◌/◌, ◌%◌, ◌≤◌, ◌<◌}
-use native.Mathlib.Nat.{le_of_suc-le-suc, le-add_right, not-suc-le-zero, zero-add, add_comm, suc-add, mul-zero, mul-suc}
+use native.Mathlib.Nat.{le_of_suc-le-suc, le-add_right, not-suc-le-zero, zero-add, add_comm, suc-add, mul-suc}
 use native.Mathlib.Omega.{arith}
 use mathlib.Core.Path.{◌≡◌, refl, sym, ◌∙◌, ap}
 use mathlib.Core.Logic.{◌⊎◌, inl, inr}

@@ -2,7 +2,6 @@
 // the definitions and the code speak.
 #![tactic(auto)]
 
-
 // The eight ways to a record, rules 1 to 8 in the table's order: each with the numbers of the premises that it has.
 #[derive(Clone, Copy)]
 pub enum Way {

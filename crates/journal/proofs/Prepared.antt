@@ -5,7 +5,7 @@ use native.Mathlib.Omega.{arith}
 use mathlib.Core.Path.{◌≡◌, sym, ◌∙◌, ap}
 use mathlib.Core.Bool.{true}
 use mathlib.Core.List.{List, []}
-use lib.ListN.{length, take, get_or, replicate}
+use lib.ListN.{length, get_or, replicate}
 use lib.Seq.{get_or-take}
 use Rattle.infon.specs.Formula.{Formula, True}
 use Rattle.infon.specs.Listing.{is_listed}

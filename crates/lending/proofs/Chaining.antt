@@ -1,29 +1,27 @@
 -- What a call for a chain comes to on an accepted file, by the first code that applies.
 -- Assumes nothing.
-use Prim.Native.Nat.{ℕ, zero, suc, ◌+◌, ◌-◌, ◌^◌, ◌≤◌, ◌<◌}
+use Prim.Native.Nat.{ℕ, zero, suc, ◌-◌, ◌^◌, ◌≤◌, ◌<◌}
 use native.Mathlib.Omega.{arith}
-use mathlib.Core.Path.{◌≡◌, refl, sym, ◌∙◌, ap}
-use mathlib.Core.Bool.{Bool, true, false, ◌||◌, not}
-use mathlib.Core.List.{List, [], ◌∷◌, ◌++◌}
+use mathlib.Core.Path.{◌≡◌, sym, ◌∙◌, ap}
+use mathlib.Core.Bool.{true, false}
+use mathlib.Core.List.{List, [], ◌∷◌}
 use lib.ListN.{length, get_or, replicate}
-use lib.Dec.{ltb, eqb}
+use lib.Dec.{eqb}
 use borrow.Author.Tests.{lt-ltb, le-ltb, eq-eqb, ne_eqb}
 use Rattle.infon.specs.declared.Record.{Record}
 use Rattle.infon.specs.declared.Chained.{Chained}
 use Rattle.infon.specs.declared.Verdict.{Verdict}
-use Rattle.infon.specs.declared.Verdict.TheVariants.{Passed, Refused}
+use Rattle.infon.specs.declared.Verdict.TheVariants.{Passed}
 use Rattle.infon.specs.Formula.{Formula, True}
 use Rattle.infon.specs.Codes.{and_then, when, tried, settled}
-use Rattle.infon.specs.Policy.{entries_of, hypotheses_of, queries_of}
-use Rattle.infon.specs.Listing.{is_listed, list_of}
-use Rattle.infon.specs.Journal.{kept_of}
+use Rattle.infon.specs.Listing.{is_listed}
 use Rattle.infon.specs.Reasons.{reasons}
 use Rattle.infon.specs.Run.{file_codes, file_verdict, is_on_record, code7}
-use Rattle.infon.specs.Chain.{query_of, code31, code32, code33, ChainOutcome, chain_refusal, lent, chain}
+use Rattle.infon.specs.Chain.{query_of, code31, code32, code33, chain_refusal, lent, chain}
 use Rattle.infon.proofs.Demands.{hypotheses_in, queries_in, list_in, kept_part}
 use Rattle.infon.proofs.Tried.{pass_on, tried_append, and_then_end}
 use Rattle.formulas.specs.Table.{number_in, table_rows}
-use Rattle.formulas.specs.Prepared.{Prepared, PreparedFor}
+use Rattle.formulas.specs.Prepared.{PreparedFor}
 use Rattle.formulas.proofs.Numbers.{number_in_below}
 use Rattle.formulas.proofs.OnRecord.{marked_on_record}
 use Rattle.journal.specs.Kept.{Keeps}

@@ -1,14 +1,13 @@
 -- What is known of a kept part and of a number on the list is what the choice of the reasons asks.
 -- Assumes nothing.
 use Prim.Native.Nat.{ℕ, zero, suc, ◌+◌, ◌*◌, ◌/◌, ◌≤◌, ◌<◌}
-use native.Mathlib.Nat.{zero-add, add_comm, not-suc-le-zero, mul-zero, mul-suc}
 use native.Mathlib.Omega.{arith}
 use mathlib.Core.Path.{◌≡◌, refl, sym, ◌∙◌, ap, ap₂, subst}
-use mathlib.Core.Bool.{Bool, true, false, cond, ◌||◌, or-false}
-use mathlib.Core.Option.{Option, none, some}
+use mathlib.Core.Bool.{Bool, false, ◌||◌, or-false}
+use mathlib.Core.Option.{some}
 use mathlib.Core.List.{List, [], ◌∷◌, ◌++◌, map, nil≢cons, head-eq_of_cons-eq, tail-eq_of_cons-eq}
-use lib.ListN.{length, take, drop, get_or, set, replicate, length-set, length-drop, length-replicate, get_or-replicate}
-use lib.Dec.{ltb, eqb}
+use lib.ListN.{length, take, drop, set, replicate, length-set, length-drop, length-replicate, get_or-replicate}
+use lib.Dec.{eqb}
 use lib.Seq.{drop-drop}
 use borrow.Author.Tests.{lt-ltb, le-ltb, eqb-true, eq-eqb}
 use Rattle.infon.specs.declared.Record.{Record}
@@ -24,7 +23,7 @@ use Rattle.infon.proofs.Grown.{GoodRow, kept_good, kept_decoded, kept_short}
 use Rattle.infon.proofs.Reasons.{good_number}
 use Rattle.reader.specs.Decoded.{record_at}
 use Rattle.formulas.specs.Table.{number_in, table_rows}
-use Rattle.formulas.proofs.Numbers.{same_test, number_in_below, number_in_numbered, numbered_listed, same_numbers}
+use Rattle.formulas.proofs.Numbers.{same_test, number_in_numbered, numbered_listed, same_numbers}
 use Rattle.reasons.specs.Wanted.{is_wanted, swept_down, found_down, wanted_to, Chooses}
 use Rattle.reasons.proofs.Joined.{wanted_set, Asks, found_reasons, wanted_reasons}
 use Rattle.lending.specs.Lending.{lent_as, Rests}

@@ -4,12 +4,12 @@ use Prim.Native.Nat.{ℕ, zero, suc, ◌+◌, ◌-◌, ◌≤◌, ◌<◌}
 use native.Mathlib.Numerals.{unary_clauses}
 use native.Mathlib.Nat.{not-suc-le-zero, zero-add, add-zero, add_assoc}
 use native.Mathlib.Omega.{arith}
-use mathlib.Core.Path.{◌≡◌, refl, sym, ◌∙◌, ap}
+use mathlib.Core.Path.{◌≡◌, refl, sym, ◌∙◌}
 use mathlib.Core.Option.{Option, none, some}
 use mathlib.Core.List.{List}
-use lib.ListN.{length, length-set}
+use lib.ListN.{length}
 use Rattle.infon.specs.declared.Record.{Record}
-use Rattle.reasons.specs.Wanted.{wish, wish_for, one_of, wanted_at, swept_down, found_down, Weighs, Chooses}
+use Rattle.reasons.specs.Wanted.{wish_for, one_of, wanted_at, swept_down, found_down, Weighs, Chooses}
 
 one_at_most : (o : Option Record) → length (one_of o) ≤ 1
 unfolding one_of

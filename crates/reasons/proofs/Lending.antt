@@ -5,8 +5,8 @@ use native.Mathlib.Numerals.{add-one}
 use native.Mathlib.Nat.{add-zero, add-suc}
 use native.Mathlib.Omega.{arith}
 use mathlib.Core.Path.{◌≡◌, refl, sym, ◌∙◌, ap}
-use mathlib.Core.Option.{Option, none, some}
-use mathlib.Core.List.{List, [], ◌∷◌, ◌++◌, append-nil}
+use mathlib.Core.Option.{Option}
+use mathlib.Core.List.{List, ◌++◌, append-nil}
 use lib.ListN.{length, take, drop, length-append, length-take, length-drop}
 use Rattle.infon.specs.declared.Record.{Record}
 use Rattle.infon.specs.Journal.{record_bytes, spelled, spelled_all}

@@ -5,8 +5,8 @@ use native.Mathlib.Omega.{arith}
 use mathlib.Core.Path.{◌≡◌, refl, sym, ◌∙◌, ap}
 use mathlib.Core.Bool.{Bool, true, false}
 use mathlib.Core.Option.{Option, none, some}
-use mathlib.Core.List.{List, [], ◌∷◌, ◌++◌}
-use lib.ListN.{length, set}
+use mathlib.Core.List.{List}
+use lib.ListN.{set}
 use Rattle.infon.specs.declared.Way.{Way}
 use Rattle.infon.specs.declared.Record.{Record}
 use Rattle.infon.specs.Journal.{first_premise, second_premise}

@@ -8,7 +8,6 @@ use Rattle.infon.specs.declared.Way.{Way}
 use Rattle.infon.specs.declared.Way.TheVariants.{Hypothesis, Given, Weaken, Left, Right, Both, Apply, Attach}
 use Rattle.infon.specs.Journal.{rule_of}
 use Rattle.writing.specs.Placed.{PutSome}
-use Rattle.writing.specs.Texts.{decimal_of}
 use Rattle.writing.proofs.Placing.{some_as, some_ends, some_on}
 use Rattle.telling.specs.Text.{reason_by}
 

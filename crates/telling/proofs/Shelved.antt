@@ -1,11 +1,10 @@
 -- What a number on the list stands for is told by the tables.
 -- Assumes nothing.
-use Prim.Native.Nat.{ℕ, ◌≤◌, ◌<◌}
+use Prim.Native.Nat.{ℕ, ◌<◌}
 use native.Mathlib.Omega.{arith}
-use mathlib.Core.Path.{◌≡◌, sym, ◌∙◌}
-use mathlib.Core.List.{List, []}
+use mathlib.Core.Path.{◌≡◌, ◌∙◌}
+use mathlib.Core.List.{List}
 use lib.ListN.{length}
-use Rattle.infon.specs.Formula.{Formula}
 use Rattle.infon.specs.Policy.{entries_of}
 use Rattle.infon.specs.Listing.{list_of}
 use Rattle.infon.specs.Rules.{numbered}

@@ -1,6 +1,6 @@
 -- What a lender desk is told of a query: the reasons behind a yes, one to a line, each with where it comes from; what a no lacks; or that
 -- it is still open.
-use Rattle.std.specs.Prelude.{ℕ, zero, suc, ◌+◌, Bool, true, false, cond, ◌&&◌, ◌||◌, not, List, [], ◌∷◌, ◌++◌, eqb}
+use Rattle.std.specs.Prelude.{ℕ, suc, cond, ◌&&◌, List, [], ◌∷◌, ◌++◌, eqb}
 use Rattle.infon.specs.declared.Way.{Way}
 use Rattle.infon.specs.declared.Way.TheVariants.{Hypothesis, Given, Weaken, Left, Right, Both, Apply, Attach}
 use Rattle.infon.specs.declared.Record.{Record}
@@ -8,7 +8,6 @@ use Rattle.infon.specs.Bytes.{bytes, line_feed}
 use Rattle.infon.specs.Formula.{Formula, same}
 use Rattle.infon.specs.Policy.{Entry}
 use Rattle.infon.specs.Rules.{Shape, truth, primitive, conjunction, implication, shape_of, weakenings, numbered}
-use Rattle.infon.specs.Journal.{is_for}
 use Rattle.infon.specs.Run.{is_on_record}
 use Rattle.infon.specs.Reasons.{reasons}
 use Rattle.writing.specs.Texts.{decimal_of}

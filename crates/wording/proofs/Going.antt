@@ -1,17 +1,14 @@
 -- One item after the other is written, until none waits.
 -- Assumes nothing.
-use Prim.Native.Nat.{ℕ, zero, suc, ◌+◌, ◌*◌, ◌-◌, ◌≤◌, ◌<◌}
-use native.Mathlib.Numerals.{add-one}
+use Prim.Native.Nat.{ℕ, suc, ◌+◌, ◌≤◌, ◌<◌}
 use native.Mathlib.Nat.{not-suc-le-zero}
 use native.Mathlib.Omega.{arith}
 use mathlib.Core.Path.{◌≡◌, refl, sym, ◌∙◌, ap, subst}
-use mathlib.Core.Bool.{Bool, true, false}
-use mathlib.Core.List.{List, [], ◌∷◌, ◌++◌, append_assoc, append-nil}
+use mathlib.Core.Bool.{true}
+use mathlib.Core.List.{List, [], ◌++◌, append_assoc, append-nil}
 use lib.ListN.{length, get_or, set, replicate, length-replicate}
-use lib.Dec.{ltb}
 use borrow.Author.Tests.{ltb-true}
-use Rattle.infon.specs.Formula.{nodes}
-use Rattle.nodes.specs.Nodes.{Node, node_at, count_nodes, nodes_of, NodesHeld}
+use Rattle.nodes.specs.Nodes.{Node, count_nodes, nodes_of, NodesHeld}
 use Rattle.nodes.proofs.Order.{node_within}
 use Rattle.prefix.proofs.Shown.{count_few}
 use Rattle.writing.specs.Placed.{PutSome}

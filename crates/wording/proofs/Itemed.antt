@@ -1,24 +1,23 @@
 -- An item is written: a word whole, a formula as far as it begins, in its brackets.
 -- Assumes nothing.
-use Prim.Native.Nat.{ℕ, zero, suc, ◌+◌, ◌*◌, ◌-◌, ◌≤◌, ◌<◌}
+use Prim.Native.Nat.{ℕ, suc, ◌+◌, ◌*◌, ◌-◌, ◌≤◌, ◌<◌}
 use native.Mathlib.Numerals.{add-one}
 use native.Mathlib.Omega.{arith}
-use mathlib.Core.Path.{◌≡◌, refl, sym, ◌∙◌, ap, subst}
-use mathlib.Core.Bool.{Bool, true, false, cond, false≢true}
-use mathlib.Core.List.{List, [], ◌∷◌, ◌++◌, append_assoc}
-use lib.ListN.{length, get_or, set}
-use lib.Dec.{ltb}
+use mathlib.Core.Path.{◌≡◌, sym, ◌∙◌, ap}
+use mathlib.Core.Bool.{Bool, true, false, false≢true}
+use mathlib.Core.List.{List, ◌++◌, append_assoc}
+use lib.ListN.{length, set}
 use borrow.Author.Tests.{lt-ltb, le-ltb}
 use Rattle.infon.specs.Bytes.{bytes}
 use Rattle.infon.specs.Formula.{Formula, nodes}
-use Rattle.nodes.specs.Nodes.{Node, node_at, count_nodes, nodes_of, node_rows, node_kind, node_cell, kind_of, NodesHeld}
+use Rattle.nodes.specs.Nodes.{Node, node_at, count_nodes, nodes_of, node_rows, node_kind, node_cell, kind_of}
 use Rattle.nodes.proofs.Order.{nodes_positive}
 use Rattle.prefix.proofs.Shown.{kind_cell, count_few}
 use Rattle.writing.specs.Placed.{PutSome}
 use Rattle.writing.proofs.Placing.{some_ends, some_on}
 use Rattle.wording.specs.declared.Progress.{Progress}
 use Rattle.wording.specs.Words.{bracketed, in_words}
-use Rattle.wording.specs.Waiting.{between_word, needs_brackets, is_formula, item_text, waiting_text, item_weight, waiting_weight, waiting_room, Waiting, Ready, Writes}
+use Rattle.wording.specs.Waiting.{between_word, needs_brackets, is_formula, item_text, waiting_text, item_weight, Ready, Writes}
 use Rattle.wording.proofs.Waited.{few_items, Before, before_one}
 
 word_text : (row : List Node) (how who : ℕ) → 3 ≤ how → item_text row how who ≡ between_word who

@@ -1,25 +1,24 @@
 -- What a node begins with is written, and its parts wait.
 -- Assumes nothing.
-use Prim.Native.Nat.{ℕ, zero, suc, ◌+◌, ◌*◌, ◌-◌, ◌≤◌, ◌<◌}
+use Prim.Native.Nat.{ℕ, suc, ◌+◌, ◌*◌, ◌-◌, ◌≤◌, ◌<◌}
 use native.Mathlib.Numerals.{add-one}
 use native.Mathlib.Omega.{arith}
-use mathlib.Core.Path.{◌≡◌, refl, sym, ◌∙◌, ap, ap₂, subst}
-use mathlib.Core.Logic.{◌⊎◌, inl, inr, ⊎_elim}
+use mathlib.Core.Path.{◌≡◌, refl, sym, ◌∙◌, ap, ap₂}
+use mathlib.Core.Logic.{◌⊎◌, inl, inr}
 use mathlib.Core.Bool.{Bool, true, false, cond, false≢true}
-use mathlib.Core.List.{List, [], ◌∷◌, ◌++◌, append_assoc}
-use lib.ListN.{length, get_or, set}
+use mathlib.Core.List.{List, ◌++◌, append_assoc}
+use lib.ListN.{length, set}
 use lib.Dec.{ltb, eqb}
-use Rattle.infon.specs.Bytes.{bytes}
 use Rattle.infon.specs.Formula.{Formula, True, name, and, implies, quoted, Quotation, nodes}
-use Rattle.nodes.specs.Nodes.{Node, node_at, count_nodes, nodes_of, node_rows, node_kind, node_end, node_cell, kind_of, inner, part, NodesHeld}
-use Rattle.nodes.proofs.Order.{nodes_positive, quoted_inner, quoted_high, node_within}
+use Rattle.nodes.specs.Nodes.{Node, node_at, count_nodes, nodes_of, node_rows, node_kind, node_end, node_cell, kind_of, inner, part}
+use Rattle.nodes.proofs.Order.{nodes_positive, quoted_inner, quoted_high}
 use Rattle.prefix.proofs.Shown.{kind_cell, end_cell, count_few}
 use Rattle.prefix.proofs.Inside.{kind_quoted, inside_below, Parts, parts_of, left_below, right_below, left_what}
 use Rattle.writing.specs.Placed.{PutSome}
 use Rattle.wording.specs.declared.Progress.{Progress}
 use Rattle.wording.specs.declared.Pair.{Pair}
-use Rattle.wording.specs.Words.{is_rule, has_parts, bracketed, told_word, in_words}
-use Rattle.wording.specs.Waiting.{between_word, needs_brackets, item_text, waiting_text, item_weight, waiting_weight, waiting_room, Waiting, own_words, pair_of, Ready, Writes}
+use Rattle.wording.specs.Words.{has_parts, bracketed, told_word, in_words}
+use Rattle.wording.specs.Waiting.{between_word, needs_brackets, item_text, waiting_text, item_weight, own_words, pair_of, Ready, Writes}
 use Rattle.wording.proofs.Waited.{few_items, Before, before_one, before_on}
 
 -- a formula in words, by what it begins with and its parts

@@ -1,21 +1,21 @@
 -- The words of a prefix and of what stands behind it are the formula's.
 -- Assumes nothing.
-use Prim.Native.Nat.{ℕ, zero, suc, ◌+◌, ◌*◌, ◌-◌, ◌/◌, ◌%◌, ◌^◌, ◌≤◌, ◌<◌}
+use Prim.Native.Nat.{ℕ, zero, suc, ◌+◌, ◌*◌, ◌-◌, ◌/◌, ◌%◌, ◌^◌, ◌<◌}
 use native.Mathlib.Nat.{pow-suc, mul_assoc, mul_comm, add-mul, one-mul}
 use native.Mathlib.Omega.{arith}
-use mathlib.Core.Path.{◌≡◌, refl, sym, ◌∙◌, ap, ap₂, subst}
+use mathlib.Core.Path.{◌≡◌, refl, sym, ◌∙◌, ap}
 use mathlib.Core.Bool.{Bool, true, false}
-use mathlib.Core.List.{List, [], ◌∷◌, ◌++◌, append_assoc, append-nil}
+use mathlib.Core.List.{List, [], ◌∷◌, ◌++◌, append_assoc}
 use lib.ListN.{length}
 use lib.Dec.{ltb, eqb}
 use borrow.Author.Tests.{ltb-true, ltb-false}
-use Rattle.infon.specs.Formula.{Told, said, put, Quotation, Formula, True, name, and, implies, quoted}
+use Rattle.infon.specs.Formula.{Told, said, put, Quotation, Formula, quoted}
 use Rattle.infon.specs.Listing.{Prefix, wrap}
-use Rattle.formulas.specs.Table.{put_bit, put_mask, all_put}
+use Rattle.formulas.specs.Table.{put_bit, put_mask}
 use Rattle.formulas.proofs.Weakened.{mask_below}
 use Rattle.prefix.specs.declared.Place.{Place}
 use Rattle.twins.specs.Twins.{principal_text}
-use Rattle.wording.specs.Words.{is_rule, has_parts, bracketed, said_word, told_word, in_words}
+use Rattle.wording.specs.Words.{has_parts, bracketed, said_word, told_word, in_words}
 use Rattle.wording.specs.Prefixed.{bits_behind, place_words}
 
 doubled : (b p : ℕ) → b * (p * 2) ≡ 2 * b * p

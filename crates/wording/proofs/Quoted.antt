@@ -1,14 +1,13 @@
 -- From the outermost place inwards: one quotation more is put.
 -- Assumes nothing.
-use Prim.Native.Nat.{ℕ, zero, suc, ◌+◌, ◌-◌, ◌/◌, ◌%◌, ◌≤◌, ◌<◌}
+use Prim.Native.Nat.{ℕ, ◌-◌, ◌/◌, ◌%◌, ◌≤◌, ◌<◌}
 use native.Mathlib.Omega.{arith}
-use mathlib.Core.Path.{◌≡◌, refl, sym, ◌∙◌, ap, subst}
-use mathlib.Core.List.{List, [], ◌∷◌, ◌++◌}
+use mathlib.Core.Path.{◌≡◌, ap, subst}
+use mathlib.Core.List.{List, ◌++◌}
 use lib.ListN.{length, get_or, take, drop}
 use lib.Dec.{eqb}
 use Rattle.prefix.specs.declared.Place.{Place}
-use Rattle.prefix.specs.declared.Prefix.{Prefix}
-use Rattle.prefix.specs.Places.{Sized, used, EachPlace, blank}
+use Rattle.prefix.specs.Places.{EachPlace, blank}
 use Rattle.prefix.proofs.Loops.{one_more, nothing_out, none_dropped}
 use Rattle.twins.specs.Twins.{principal_text, Quoting}
 use Rattle.twins.proofs.Walks.{each_place}

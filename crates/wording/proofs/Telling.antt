@@ -1,17 +1,16 @@
 -- What a node and put places tell of a formula is all of its words.
 -- Assumes nothing.
-use Prim.Native.Nat.{ℕ, zero, suc, ◌+◌, ◌*◌, ◌^◌, ◌≤◌, ◌<◌}
+use Prim.Native.Nat.{ℕ, zero, suc, ◌+◌, ◌*◌, ◌^◌, ◌≤◌}
 use native.Mathlib.Nat.{zero-mul, add-zero}
-use native.Mathlib.Omega.{arith}
-use mathlib.Core.Path.{◌≡◌, refl, sym, ◌∙◌, ap, ap₂, subst}
+use mathlib.Core.Path.{◌≡◌, refl, sym, ◌∙◌, ap, ap₂}
 use mathlib.Core.Bool.{true}
 use mathlib.Core.List.{List, [], ◌∷◌, ◌++◌, nil≢cons, cons≢nil, head-eq_of_cons-eq, tail-eq_of_cons-eq}
 use lib.ListN.{length}
 use Rattle.infon.specs.Formula.{Quotation, Formula}
 use Rattle.infon.specs.Listing.{Prefix, wrap}
-use Rattle.infon.specs.Rules.{prefix_under, core_of}
+use Rattle.infon.specs.Rules.{prefix_under}
 use Rattle.infon.proofs.Prefixes.{wrap_core}
-use Rattle.nodes.specs.Nodes.{Node, node_at, count_nodes, nodes_of}
+use Rattle.nodes.specs.Nodes.{Node, node_at, nodes_of}
 use Rattle.formulas.specs.Table.{put_mask, all_put}
 use Rattle.prefix.specs.declared.Place.{Place}
 use Rattle.prefix.specs.Places.{used, EachPlace, prefix_at}
@@ -21,7 +20,7 @@ use Rattle.twins.specs.Twins.{principal_text}
 use Rattle.twins.proofs.Texts.{principal_text_lem}
 use Rattle.writing.specs.Placed.{PutSome}
 use Rattle.writing.proofs.Placing.{some_on, some_as}
-use Rattle.wording.specs.Words.{has_parts, bracketed, in_words}
+use Rattle.wording.specs.Words.{bracketed, in_words}
 use Rattle.wording.specs.Waiting.{needs_brackets, is_formula, item_text}
 use Rattle.wording.specs.Prefixed.{place_words, around_by}
 use Rattle.prefix.specs.Told.{ToldBy}

@@ -1,17 +1,15 @@
 -- Items that wait: one more in front of the others, and how many places all of them may come to need.
 -- Assumes nothing.
-use Prim.Native.Nat.{ℕ, zero, suc, ◌+◌, ◌*◌, ◌-◌, ◌≤◌, ◌<◌}
+use Prim.Native.Nat.{ℕ, zero, suc, ◌+◌, ◌*◌, ◌≤◌, ◌<◌}
 use native.Mathlib.Omega.{arith}
-use mathlib.Core.Path.{◌≡◌, refl, sym, ◌∙◌, ap, ap₂, subst}
-use mathlib.Core.Logic.{⊎_elim}
+use mathlib.Core.Path.{◌≡◌, refl, sym, ◌∙◌, ap}
 use mathlib.Core.Bool.{Bool, true, false, cond}
-use mathlib.Core.List.{List, [], ◌∷◌, ◌++◌, append_assoc}
-use lib.ListN.{length, get_or, set, length-set}
+use mathlib.Core.List.{List, ◌++◌, append_assoc}
+use lib.ListN.{get_or, set, length-set}
 use lib.Seq.{get_or-set_same, get_or-set_other}
-use lib.Dec.{ltb, eqb}
+use lib.Dec.{ltb}
 use borrow.Author.Tests.{ltb-true, ltb-false}
-use Rattle.infon.specs.Formula.{Formula, nodes}
-use Rattle.infon.proofs.Rows.{decided}
+use Rattle.infon.specs.Formula.{nodes}
 use Rattle.nodes.specs.Nodes.{Node, node_at, count_nodes}
 use Rattle.nodes.proofs.Order.{nodes_positive}
 use Rattle.wording.specs.Waiting.{is_formula, item_text, waiting_text, item_weight, waiting_weight, waiting_room, Waiting}

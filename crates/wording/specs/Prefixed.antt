@@ -1,5 +1,5 @@
 -- The words of a prefix, read off its places and a number that has a bit for each, the outermost place lowest: put where it is 1.
-use Rattle.std.specs.Prelude.{ℕ, zero, suc, ◌/◌, ◌%◌, ◌≤◌, ◌<◌, ◌≡◌, List, [], ◌∷◌, ◌++◌, length, eqb}
+use Rattle.std.specs.Prelude.{ℕ, zero, suc, ◌/◌, ◌%◌, ◌≤◌, List, [], ◌∷◌, ◌++◌, length, eqb}
 use Rattle.infon.specs.Formula.{Formula}
 use Rattle.prefix.specs.declared.Place.{Place}
 use Rattle.prefix.specs.Told.{ToldBy}

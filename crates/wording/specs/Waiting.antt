@@ -1,6 +1,6 @@
 -- How the words are written without going back: what is still to be written waits in a row, what comes next at its end. An item is a
 -- formula, by its node's number and by where brackets are needed around it, or a word between formulas.
-use Rattle.std.specs.Prelude.{ℕ, zero, suc, ◌+◌, ◌*◌, ◌≤◌, ◌<◌, ◌≡◌, Bool, true, false, cond, List, [], ◌∷◌, ◌++◌, length, get_or, ltb, eqb}
+use Rattle.std.specs.Prelude.{ℕ, zero, suc, ◌+◌, ◌*◌, ◌≤◌, ◌<◌, ◌≡◌, Bool, true, false, cond, List, [], ◌++◌, length, get_or, ltb, eqb}
 use Rattle.infon.specs.Bytes.{bytes}
 use Rattle.infon.specs.Formula.{Formula, True, name, and, implies, quoted, nodes}
 use Rattle.nodes.specs.Nodes.{Node, node_at, count_nodes, nodes_of, NodesHeld}

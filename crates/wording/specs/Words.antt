@@ -1,7 +1,7 @@
 -- Formulas in words, for those who read no logic. Brackets stand only where the words could be read in two ways without them.
-use Rattle.std.specs.Prelude.{ℕ, Bool, true, false, List, [], ◌∷◌, ◌++◌}
+use Rattle.std.specs.Prelude.{ℕ, Bool, true, false, List, ◌++◌}
 use Rattle.infon.specs.Bytes.{bytes}
-use Rattle.infon.specs.Formula.{Told, said, put, Quotation, Formula, True, name, and, implies, quoted}
+use Rattle.infon.specs.Formula.{Told, said, put, Formula, True, name, and, implies, quoted}
 
 -- an `if .. then ..`, which goes on to the end of what it stands in; a formula of two parts
 unfoldable pub is_rule : Formula → Bool

@@ -1,20 +1,16 @@
 -- The answers by marks are the answers of the definitions.
 -- Assumes nothing.
-use Prim.Native.Nat.{ℕ, ◌<◌}
-use mathlib.Core.Path.{◌≡◌, refl, sym, ◌∙◌, ap, ap₂, subst}
-use mathlib.Core.Bool.{Bool, true, false, ◌||◌}
+use Prim.Native.Nat.{ℕ}
+use mathlib.Core.Path.{◌≡◌, refl, sym, ◌∙◌, ap, ap₂}
+use mathlib.Core.Bool.{Bool, true}
 use mathlib.Core.List.{List, [], ◌∷◌, map, map-map, Memᴰ}
-use lib.ListN.{length, take, get_or}
-use lib.Dec.{eqb}
+use lib.ListN.{length, take}
 use Rattle.infon.specs.declared.Record.{Record}
-use Rattle.infon.specs.Bytes.{some_of}
-use Rattle.infon.specs.Formula.{Formula, same}
+use Rattle.infon.specs.Formula.{Formula}
 use Rattle.infon.specs.Listing.{is_listed}
-use Rattle.infon.specs.Rules.{numbered}
-use Rattle.infon.specs.Journal.{is_recorded, is_finished}
+use Rattle.infon.specs.Journal.{is_finished}
 use Rattle.infon.specs.Run.{answer_of, answer_byte, is_on_record, answers_of}
-use Rattle.infon.proofs.Sound.{by_recorded}
-use Rattle.formulas.specs.Table.{number_in, flag}
+use Rattle.formulas.specs.Table.{number_in}
 use Rattle.formulas.specs.Tests.{Held}
 use Rattle.formulas.proofs.OnRecord.{marked_on_record}
 use Rattle.answers.specs.Answered.{answer_at, answered_bytes}

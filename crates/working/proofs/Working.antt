@@ -5,16 +5,14 @@ use native.Mathlib.Omega.{arith}
 use mathlib.Core.Path.{◌≡◌, sym, ◌∙◌, ap, subst}
 use mathlib.Core.List.{List, [], ◌++◌, map}
 use lib.ListN.{length, take, get_or, replicate, length-replicate}
-use lib.Seq.{get_or-take}
 use Rattle.infon.specs.Formula.{Formula, True}
 use Rattle.infon.specs.Journal.{record_bytes, whole_records, spelled_all, kept_of, grown}
 use Rattle.infon.specs.Run.{written, success}
-use Rattle.infon.proofs.Rows.{get_d_map}
 use Rattle.infon.proofs.Listed.{numbered_mem}
 use Rattle.infon.proofs.Grown.{kept_good}
 use Rattle.infon.proofs.Missing.{grown_short}
 use Rattle.infon.specs.Rules.{numbered}
-use Rattle.formulas.specs.Table.{number_in, table_rows, table_cells}
+use Rattle.formulas.specs.Table.{number_in, table_rows}
 use Rattle.formulas.specs.Tests.{Held}
 use Rattle.formulas.proofs.Numbers.{number_in_below}
 use Rattle.journal.specs.Kept.{Keeps}

@@ -1,5 +1,4 @@
 -- `answers::answer_all` meets its contract. The invariant: the first i answers stand in front, the rest is as it was.
-use Prim.Native.Nat.{◌-◌}
 use Rattle.answers.proofs.Filling.{begin, turn, over}
 use native.Mathlib.Omega.{arith}
 use Rattle.answers.proofs.answer_all.Goals as goal

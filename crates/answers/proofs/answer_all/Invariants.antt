@@ -1,5 +1,5 @@
 use Prim.Native.Nat.{◌-◌}
-use Rattle.answers.proofs.Filling.{Going, begin, turn, over}
+use Rattle.answers.proofs.Filling.{Going}
 use Rattle.answers.proofs.answer_all.Given as goal
 
 abbrev pub invariant-loop-i : goal.invariant-loop-i

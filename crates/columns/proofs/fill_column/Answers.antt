@@ -1,7 +1,6 @@
 -- `columns::fill_column` meets its contract: a cell more of the column at each turn.
 use borrow.Author.Rules.{rules}
 use native.Mathlib.Omega.{arith}
-use Prim.Native.Nat.{◌-◌}
 use mathlib.Core.Path.{refl}
 use Rattle.columns.specs.Columns.{with_column}
 use Rattle.columns.proofs.Steps.{column_turn, column_over, column_size}
@@ -26,11 +25,14 @@ cell_of-cell-requires c =
 
 pub set_cell-requires : goal.set_cell-requires
 set_cell-requires c =
-    let s = c in record { inside = (
+    let s = c in record {
+      inside = (
         omega (arith, s.requires.0.table_long, column_size _ _ _ _ _ c.loop-i.invariant.1),
         s.requires.2,
         omega (arith, s.requires.0.owners_are.few),
-      ); fits = search rules }
+      );
+      fits = search rules;
+    }
 
 pub loop-i-preserved : goal.loop-i-preserved
 loop-i-preserved c =

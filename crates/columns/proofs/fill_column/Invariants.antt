@@ -1,5 +1,5 @@
 use Prim.Native.Nat.{◌≤◌, ◌-◌}
-use mathlib.Core.Path.{◌≡◌, refl}
+use mathlib.Core.Path.{◌≡◌}
 use Rattle.columns.specs.Columns.{column_of, with_column}
 use Rattle.columns.proofs.fill_column.Given as goal
 

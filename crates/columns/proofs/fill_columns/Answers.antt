@@ -1,6 +1,5 @@
 -- `columns::fill_columns` meets its contract: one column more at each turn.
 use native.Mathlib.Omega.{arith}
-use Prim.Native.Nat.{◌-◌}
 use mathlib.Core.Path.{◌≡◌, refl, ◌∙◌, ap}
 use lib.ListN.{length}
 use Rattle.columns.specs.Columns.{filled_to}

@@ -1,5 +1,5 @@
 use Prim.Native.Nat.{◌≤◌, ◌-◌}
-use mathlib.Core.Path.{◌≡◌, refl, ◌∙◌, ap}
+use mathlib.Core.Path.{◌≡◌}
 use Rattle.formulas.specs.Table.{table_columns}
 use Rattle.columns.specs.Columns.{filled_to}
 use Rattle.columns.proofs.fill_columns.Given as goal

@@ -1,6 +1,5 @@
 -- `columns::form_number` meets its contract: what is left of the way down gives the same number at each step.
 use native.Mathlib.Omega.{arith}
-use Prim.Native.Nat.{◌-◌}
 use Rattle.columns.proofs.Steps.{form_row, form_few, form_table, going_begins, going_row, going_on, going_over}
 use Rattle.columns.proofs.form_number.Goals as goal
 

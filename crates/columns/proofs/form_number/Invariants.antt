@@ -1,6 +1,6 @@
 use Prim.Native.Nat.{◌-◌}
 use Rattle.nodes.specs.Nodes.{node_rows}
-use Rattle.columns.proofs.Steps.{form_row, form_few, form_table, Going, going_begins, going_row, going_on, going_over}
+use Rattle.columns.proofs.Steps.{Going}
 use Rattle.columns.proofs.form_number.Given as goal
 
 abbrev pub invariant-loop-kind : goal.invariant-loop-kind

@@ -1,5 +1,5 @@
 -- `facts::base_of` meets its contract: each quotation has the same base as the node behind it.
-use Prim.Native.Nat.{ℕ, ◌-◌, ◌<◌}
+use Prim.Native.Nat.{◌<◌}
 use native.Mathlib.Omega.{arith}
 use borrow.Author.Rules.{rules}
 use Rattle.nodes.specs.Nodes.{nodes_of}

@@ -1,7 +1,7 @@
 use Prim.Native.Nat.{ℕ, ◌-◌, ◌<◌}
 use mathlib.Core.List.{List}
 use Rattle.nodes.specs.Nodes.{count_nodes, nodes_of, NodesHeld}
-use Rattle.facts.proofs.Bases.{Inwards, inwards_begin, inwards_on, inwards_over}
+use Rattle.facts.proofs.Bases.{Inwards}
 use Rattle.facts.proofs.base_of.Given as goal
 
 abbrev pub invariant-loop-i : goal.invariant-loop-i

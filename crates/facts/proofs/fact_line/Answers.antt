@@ -1,5 +1,5 @@
 -- `facts::fact_line` meets its contract: each line is looked at, and the sought one is found or is still ahead.
-use Prim.Native.Nat.{◌-◌, ◌<◌}
+use Prim.Native.Nat.{◌<◌}
 use native.Mathlib.Omega.{arith}
 use borrow.Author.Rules.{rules}
 use Rattle.prefix.proofs.Shown.{count_few, table_long}

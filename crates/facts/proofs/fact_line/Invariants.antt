@@ -1,5 +1,5 @@
-use Prim.Native.Nat.{◌-◌, ◌<◌}
-use Rattle.facts.proofs.Sought.{Sought, sought_begin, node_below, line_asked, sought_here, sought_on, further, sought_over}
+use Prim.Native.Nat.{◌-◌}
+use Rattle.facts.proofs.Sought.{Sought}
 use Rattle.facts.proofs.fact_line.Given as goal
 
 abbrev pub invariant-loop-r : goal.invariant-loop-r

@@ -1,5 +1,4 @@
 -- `frontier::begin` meets its contract. The loop's invariant: what is wanted in all is what is wanted so far and what is wanted from here on.
-use Prim.Native.Nat.{◌-◌}
 use Rattle.frontier.proofs.Chained.{taking_begins, taking_turn, taking_over}
 use Rattle.frontier.proofs.begin.Goals as goal
 

@@ -1,5 +1,5 @@
 use Prim.Native.Nat.{◌-◌}
-use Rattle.frontier.proofs.Chained.{Taking, taking_begins, taking_turn, taking_over}
+use Rattle.frontier.proofs.Chained.{Taking}
 use Rattle.frontier.proofs.begin.Given as goal
 
 abbrev pub invariant-loop-i : goal.invariant-loop-i

@@ -1,5 +1,4 @@
 -- `frontier::meet_chain` meets its contract. The loop's invariant: what is wanted in all is what is wanted so far and what is wanted from here on.
-use Prim.Native.Nat.{◌-◌}
 use Rattle.frontier.proofs.Chained.{meeting_begins, meeting_further, meeting_turn, meeting_over}
 use native.Mathlib.Omega.{arith}
 use Rattle.frontier.proofs.meet_chain.Goals as goal

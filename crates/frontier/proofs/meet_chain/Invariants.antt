@@ -1,5 +1,5 @@
 use Prim.Native.Nat.{◌-◌}
-use Rattle.frontier.proofs.Chained.{Meeting, meeting_begins, meeting_further, meeting_turn, meeting_over}
+use Rattle.frontier.proofs.Chained.{Meeting}
 use Rattle.frontier.proofs.meet_chain.Given as goal
 
 abbrev pub invariant-loop-g : goal.invariant-loop-g

@@ -1,5 +1,4 @@
 -- `frontier::next_record` meets its contract. The loop's invariant: the set covers, and its least member is at hand.
-use Prim.Native.Nat.{◌-◌}
 use Rattle.frontier.proofs.Covered.{passing_begins, passing_found, passing_further, passing_turn, passing_over}
 use borrow.Author.Rules.{rules}
 use native.Mathlib.Omega.{arith}

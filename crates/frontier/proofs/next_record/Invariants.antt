@@ -1,5 +1,5 @@
 use Prim.Native.Nat.{◌-◌}
-use Rattle.frontier.proofs.Covered.{Passing, passing_begins, passing_found, passing_further, passing_turn, passing_over}
+use Rattle.frontier.proofs.Covered.{Passing}
 use Rattle.frontier.proofs.next_record.Given as goal
 
 abbrev pub invariant-loop-f : goal.invariant-loop-f

@@ -1,6 +1,5 @@
 -- `growth::grow` meets its contract. The invariant: what is added in all is what is added so far and what is added from here on,
 -- and the set covers. The measure is what is left of the limit. What is promised comes first, then what the code on the way asks.
-use Prim.Native.Nat.{◌-◌}
 use mathlib.Core.Path.{sym}
 use Rattle.growth.proofs.Covering.{covering_filled}
 use Rattle.growth.proofs.Growing.{begin, addable, turn, none_added, limit_finished, limit_reached}

@@ -1,6 +1,6 @@
 use Prim.Native.Nat.{◌-◌}
-use Rattle.growth.proofs.Covering.{Covering, covering_filled}
-use Rattle.growth.proofs.Growing.{Growing, begin, addable, turn, none_added, limit_finished, limit_reached}
+use Rattle.growth.proofs.Covering.{Covering}
+use Rattle.growth.proofs.Growing.{Growing}
 use Rattle.growth.proofs.grow.Given as goal
 
 abbrev pub invariant-loop-added : goal.invariant-loop-added

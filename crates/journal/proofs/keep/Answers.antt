@@ -1,5 +1,5 @@
 -- `journal::keep` meets its contract: each turn of the loop keeps one record more, or is the last.
-use Rattle.std.proofs.Common.{◌≡◌, ◌+◌, ◌*◌, ap, sym, ◌∙◌, arith}
+use Rattle.std.proofs.Common.{◌≡◌, ◌*◌, ap, sym, ◌∙◌, arith}
 use Rattle.reader.specs.Decoded.{to_decoded, record_at}
 use Rattle.journal.proofs.Keeping.{begin, turn, over}
 use Rattle.journal.proofs.keep.Goals as goal

@@ -1,5 +1,4 @@
 -- `lines::first_malformed` meets its contract. The invariant: code 2 of the file is that of the lines from `start` on.
-use Prim.Native.Nat.{◌-◌}
 use mathlib.Core.Path.{sym, ◌∙◌}
 use Rattle.lines.proofs.Feeds.{line_ended, code2_begin, code2_over, code2_stop, code2_turn}
 use native.Mathlib.Omega.{arith}

@@ -1,5 +1,4 @@
 -- `lines::line_end` meets its contract. The invariant: the bytes passed and those left before the line feed are all of them.
-use Prim.Native.Nat.{◌-◌}
 use Rattle.spelling.proofs.Breaks.{until_over}
 use Rattle.lines.specs.Lining.{is_feed}
 use Rattle.lines.proofs.Feeds.{feed_stop, feed_turn}

@@ -1,7 +1,7 @@
 use Prim.Native.Nat.{◌+◌, ◌≤◌, ◌-◌}
 use mathlib.Core.Path.{◌≡◌}
 use lib.ListN.{length, drop}
-use Rattle.lines.specs.Lining.{is_feed, until_feed}
+use Rattle.lines.specs.Lining.{until_feed}
 use Rattle.lines.proofs.line_end.Given as goal
 
 abbrev pub invariant-loop-i : goal.invariant-loop-i

@@ -1,6 +1,6 @@
 use Prim.Native.Nat.{◌≤◌}
-use mathlib.Core.Path.{◌≡◌, refl, sym, ◌∙◌}
-use lib.ListN.{length, length-set}
+use mathlib.Core.Path.{◌≡◌}
+use lib.ListN.{length}
 use Rattle.links.specs.Chains.{none_first}
 use Rattle.links.proofs.clear_firsts.Given as goal
 

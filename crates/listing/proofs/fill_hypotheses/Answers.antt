@@ -1,6 +1,6 @@
 -- `listing::fill_hypotheses` meets its contract: what is marked so far is what the lines so far say.
 use native.Mathlib.Omega.{arith}
-use Prim.Native.Nat.{ℕ, ◌-◌, ◌≤◌}
+use Prim.Native.Nat.{ℕ, ◌≤◌}
 use mathlib.Core.Path.{subst}
 use Rattle.prefix.proofs.Shown.{table_long}
 use Rattle.listing.proofs.Marks.{line_is_form, line_row, line_inside, line_further, marks_begin, mark_room, mark_number, mark_fits, marks_on, marks_over}
@@ -30,12 +30,15 @@ cell_at-old-requires c = (
 )
 
 pub set_cell-requires : goal.set_cell-requires
-set_cell-requires c = record { inside = (
+set_cell-requires c = record {
+  inside = (
     mark_room _ _ _ _ _ _ _ c.requires.0 c.requires.1.long c.loop-r.invariant c.loop-r-test.true,
     omega arith,
     omega (arith, c.form_number-number.ensures, mark_number _ _ _ _ _ _ _ c.requires.0 c.requires.1.long c.loop-r.invariant c.loop-r-test.true),
-  ); fits = mark_fits _ _ _ _ _ _ _ c.requires.0 c.requires.1.long c.loop-r.invariant c.loop-r-test.true _ _ _ _
-      c.form_number-number.ensures c.cell_at-old.ensures c.mark.ensures }
+  );
+  fits = mark_fits _ _ _ _ _ _ _ c.requires.0 c.requires.1.long c.loop-r.invariant c.loop-r-test.true _ _ _ _
+      c.form_number-number.ensures c.cell_at-old.ensures c.mark.ensures;
+}
 
 pub cell_at-r-requires : goal.cell_at-r-requires
 cell_at-r-requires c = record { inside = (omega arith, line_row _ _ _ _ c.requires.0 _ _ c.loop-r.invariant.ahead c.loop-r-test.true); whole = table_long _ _ c.requires.0.held }

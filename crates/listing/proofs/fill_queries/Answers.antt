@@ -1,6 +1,6 @@
 -- `listing::fill_queries` meets its contract: the numbers written so far are those of the queries so far.
 use native.Mathlib.Omega.{arith}
-use Prim.Native.Nat.{ℕ, ◌-◌, ◌≤◌}
+use Prim.Native.Nat.{ℕ, ◌≤◌}
 use mathlib.Core.Path.{subst}
 use Rattle.prefix.proofs.Shown.{table_long}
 use Rattle.listing.proofs.Marks.{line_is_form, line_row, line_inside, line_further, asked_begin, ask_room, asked_on, asked_over}

@@ -1,5 +1,5 @@
-use Prim.Native.Nat.{ℕ, ◌-◌, ◌≤◌}
-use Rattle.listing.proofs.Marks.{line_is_form, line_row, line_inside, line_further, AskedTo, asked_begin, asked_size, ask_room, asked_on, asked_over}
+use Prim.Native.Nat.{◌-◌}
+use Rattle.listing.proofs.Marks.{AskedTo}
 use Rattle.listing.proofs.fill_queries.Given as goal
 
 abbrev pub invariant-loop-r : goal.invariant-loop-r

@@ -1,6 +1,5 @@
 -- `listing::find` meets its contract: so far not found, the key's place is among the rest.
 use native.Mathlib.Omega.{arith}
-use Prim.Native.Nat.{◌-◌}
 use mathlib.Core.Path.{sym, ◌∙◌}
 use Rattle.listing.proofs.Search.{search_begins, search_here, search_on, search_over}
 use Rattle.listing.proofs.find.Goals as goal

@@ -1,8 +1,8 @@
 use Prim.Native.Nat.{◌≤◌, ◌-◌}
-use mathlib.Core.Path.{◌≡◌, sym, ◌∙◌}
+use mathlib.Core.Path.{◌≡◌}
 use lib.ListN.{take}
 use Rattle.listing.specs.Forms.{place_in}
-use Rattle.listing.proofs.Search.{Ahead, search_begins, search_here, search_on, search_over}
+use Rattle.listing.proofs.Search.{Ahead}
 use Rattle.listing.proofs.find.Given as goal
 
 abbrev pub invariant-loop-i : goal.invariant-loop-i

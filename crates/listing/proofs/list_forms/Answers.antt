@@ -1,6 +1,6 @@
 -- `listing::list_forms` meets its contract: each form is found or put behind the others, in the order of the weaker prefixes.
 use native.Mathlib.Omega.{arith}
-use Prim.Native.Nat.{◌+◌, ◌*◌, ◌-◌, ◌<◌}
+use Prim.Native.Nat.{◌+◌, ◌*◌, ◌<◌}
 use mathlib.Core.Path.{refl, ◌∙◌, ap}
 use lib.ListN.{take}
 use lib.Seq.{length-take-le}

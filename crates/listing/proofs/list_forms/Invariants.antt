@@ -1,5 +1,5 @@
-use Prim.Native.Nat.{◌+◌, ◌*◌, ◌-◌, ◌<◌}
-use Rattle.listing.proofs.Search.{place_most, Turning, turning_begins, key_room, owner_room, form_room, listed_few, turning_on, forms_over, puts_below}
+use Prim.Native.Nat.{◌-◌}
+use Rattle.listing.proofs.Search.{Turning}
 use Rattle.listing.proofs.list_forms.Given as goal
 
 abbrev pub invariant-loop-m : goal.invariant-loop-m

@@ -1,6 +1,6 @@
 -- `listing::list_nodes` meets its contract: the tables hold what is listed so far, and code 5 is that of the nodes still ahead.
 use native.Mathlib.Omega.{arith}
-use Prim.Native.Nat.{ℕ, ◌-◌, ◌≤◌, ◌<◌}
+use Prim.Native.Nat.{ℕ, ◌≤◌, ◌<◌}
 use mathlib.Core.Path.{subst}
 use Rattle.prefix.proofs.Shown.{count_few, table_long}
 use Rattle.listing.proofs.Nodewise.{nodes_begin, node_ready, nodes_on, nodes_over, nodes_all}

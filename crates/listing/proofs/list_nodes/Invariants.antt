@@ -1,5 +1,5 @@
-use Prim.Native.Nat.{ℕ, ◌-◌, ◌≤◌, ◌<◌}
-use Rattle.listing.proofs.Nodewise.{NodesTo, nodes_begin, node_ready, nodes_on, nodes_over, nodes_all}
+use Prim.Native.Nat.{◌-◌}
+use Rattle.listing.proofs.Nodewise.{NodesTo}
 use Rattle.listing.proofs.list_nodes.Given as goal
 
 abbrev pub invariant-loop-i : goal.invariant-loop-i

@@ -1,5 +1,4 @@
 -- `members::least` meets its contract. The loop's invariant: the words before the place have no member.
-use Prim.Native.Nat.{◌-◌}
 use native.Mathlib.Omega.{arith}
 use Rattle.members.proofs.Membership.{search_begins, search_goes_on, search_ends, search_finds}
 use Rattle.members.proofs.least.Goals as goal

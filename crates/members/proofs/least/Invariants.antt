@@ -1,5 +1,5 @@
 use Prim.Native.Nat.{◌≤◌, ◌-◌}
-use Rattle.members.proofs.Membership.{NoneBefore, search_begins, search_goes_on, search_ends, search_finds}
+use Rattle.members.proofs.Membership.{NoneBefore}
 use Rattle.members.proofs.least.Given as goal
 
 abbrev pub invariant-loop-at : goal.invariant-loop-at

@@ -1,5 +1,4 @@
 -- `policy::deep` meets its contract. The invariant: code 4 of the file that the table holds is that of the nodes from `i` on.
-use Prim.Native.Nat.{◌-◌}
 use Rattle.policy.proofs.Finish.{deep_begin, deep_turn, deep_stop, deep_over}
 use native.Mathlib.Omega.{arith}
 use Rattle.policy.proofs.deep.Goals as goal

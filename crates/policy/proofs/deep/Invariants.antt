@@ -1,5 +1,5 @@
 use Prim.Native.Nat.{◌≤◌, ◌-◌}
-use Rattle.policy.proofs.Finish.{DeepFrom, deep_begin, deep_turn, deep_stop, deep_over}
+use Rattle.policy.proofs.Finish.{DeepFrom}
 use Rattle.policy.proofs.deep.Given as goal
 
 abbrev pub invariant-loop-i : goal.invariant-loop-i

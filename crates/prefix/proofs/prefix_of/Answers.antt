@@ -1,6 +1,5 @@
 -- `prefix::prefix_of` meets its contract: the places read so far and those still ahead are together the whole row.
 use native.Mathlib.Omega.{arith}
-use Prim.Native.Nat.{◌-◌}
 use Rattle.prefix.proofs.Loops.{climb_begins, climb_row, climb_turn, climb_over, same_prefix}
 use Rattle.prefix.proofs.prefix_of.Goals as goal
 

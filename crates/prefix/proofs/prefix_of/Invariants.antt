@@ -2,7 +2,7 @@ use Prim.Native.Nat.{◌-◌}
 use mathlib.Core.Path.{◌≡◌}
 use Rattle.nodes.specs.Nodes.{node_depth, node_cell}
 use Rattle.prefix.specs.Places.{prefix_at}
-use Rattle.prefix.proofs.Loops.{Climbed, climb_begins, climb_row, climb_turn, climb_over, same_prefix}
+use Rattle.prefix.proofs.Loops.{Climbed}
 use Rattle.prefix.proofs.prefix_of.Given as goal
 
 abbrev pub invariant-loop-k : goal.invariant-loop-k

@@ -1,7 +1,7 @@
-use Prim.Native.Nat.{ℕ, ◌+◌, ◌*◌, ◌≤◌, ◌^◌}
-use mathlib.Core.Path.{◌≡◌, sym, ◌∙◌, ap, ap₂}
+use Prim.Native.Nat.{◌≤◌, ◌^◌}
+use mathlib.Core.Path.{◌≡◌}
 use lib.ListN.{take, drop, length}
-use Rattle.prefix.specs.Places.{used, puts_of, put_weight, blank}
+use Rattle.prefix.specs.Places.{puts_of}
 use Rattle.prefix.proofs.puts.Given as goal
 
 abbrev pub invariant-loop-k : goal.invariant-loop-k

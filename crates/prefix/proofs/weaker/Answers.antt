@@ -1,6 +1,6 @@
 -- `prefix::weaker` meets its contract: the places lowered so far and those still ahead are together the weaker row.
 use native.Mathlib.Omega.{arith}
-use Prim.Native.Nat.{◌-◌, ◌≤◌}
+use Prim.Native.Nat.{◌≤◌}
 use lib.ListN.{length}
 use Rattle.prefix.specs.Places.{weaker_at, blank}
 use Rattle.prefix.proofs.Loops.{lower_turn, lower_over, same_places_lem}

@@ -1,5 +1,5 @@
-use Prim.Native.Nat.{◌-◌, ◌≤◌}
-use Rattle.prefix.proofs.Loops.{Lowered, lower_turn, lower_over, same_places_lem}
+use Prim.Native.Nat.{◌-◌}
+use Rattle.prefix.proofs.Loops.{Lowered}
 use Rattle.prefix.proofs.weaker.Given as goal
 
 abbrev pub invariant-loop-k : goal.invariant-loop-k

@@ -1,7 +1,7 @@
 use Prim.Native.Nat.{◌≤◌}
-use mathlib.Core.Path.{◌≡◌, sym, ◌∙◌, ap}
+use mathlib.Core.Path.{◌≡◌}
 use lib.ListN.{take, drop}
-use Rattle.prefix.specs.Places.{used, weaker_count_of, branches, blank}
+use Rattle.prefix.specs.Places.{weaker_count_of}
 use Rattle.prefix.proofs.weaker_count.Given as goal
 
 abbrev pub invariant-loop-k : goal.invariant-loop-k

@@ -1,6 +1,6 @@
-use mathlib.Core.Path.{◌≡◌, refl, ◌∙◌}
+use mathlib.Core.Path.{◌≡◌}
 use lib.ListN.{length}
-use Rattle.reasons.proofs.Choosing.{Choosing, choosing_begins, found_fits, choosing_turns, choosing_over}
+use Rattle.reasons.proofs.Choosing.{Choosing}
 use Rattle.reasons.proofs.choose.Given as goal
 
 abbrev pub invariant-loop-i : goal.invariant-loop-i

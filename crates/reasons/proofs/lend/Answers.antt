@@ -1,5 +1,4 @@
 -- `reasons::lend` meets its contract. The loop's invariant: the wanted ones of the records gone through stand at the front.
-use Prim.Native.Nat.{◌-◌}
 use mathlib.Core.Path.{refl, ◌∙◌}
 use Rattle.reasons.proofs.Lending.{lending_begins, lending_room, lending_turns, lending_over}
 use native.Mathlib.Omega.{arith}

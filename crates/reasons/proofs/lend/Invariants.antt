@@ -1,7 +1,7 @@
 use Prim.Native.Nat.{◌-◌}
-use mathlib.Core.Path.{◌≡◌, refl, ◌∙◌}
+use mathlib.Core.Path.{◌≡◌}
 use lib.ListN.{length}
-use Rattle.reasons.proofs.Lending.{Lending, lending_begins, lending_room, lending_turns, lending_over}
+use Rattle.reasons.proofs.Lending.{Lending}
 use Rattle.reasons.proofs.lend.Given as goal
 
 abbrev pub invariant-loop-i : goal.invariant-loop-i

@@ -1,5 +1,4 @@
 -- `spelling::are_alike` meets its contract. The invariant: the bytes passed are alike, so the whole is if the rest is.
-use Prim.Native.Nat.{◌-◌}
 use mathlib.Core.Path.{refl, sym, ◌∙◌}
 use Rattle.spelling.proofs.Bytewise.{alike_length, alike_turn, alike_stop, alike_over}
 use native.Mathlib.Omega.{arith}

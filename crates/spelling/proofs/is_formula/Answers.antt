@@ -1,6 +1,5 @@
 -- `spelling::is_formula` meets its contract. The invariant: the text is a formula exactly if what stands from `at` on reads as so many
 -- formulas as are needed.
-use Prim.Native.Nat.{◌-◌}
 use mathlib.Core.Path.{sym, ◌∙◌, ap}
 use lib.ListN.{drop}
 use Rattle.spelling.specs.Parsing.{gone_on}

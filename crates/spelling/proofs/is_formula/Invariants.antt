@@ -1,9 +1,9 @@
 use Prim.Native.Nat.{◌+◌, ◌≤◌, ◌-◌}
-use mathlib.Core.Path.{◌≡◌, sym, ◌∙◌, ap}
+use mathlib.Core.Path.{◌≡◌}
 use lib.ListN.{length, drop}
 use Rattle.infon.specs.Formula.{tokens, read_words, formula_of}
 use Rattle.infon.specs.Policy.{is_some}
-use Rattle.spelling.proofs.Counted.{matches, formula_counted, too_early, taken_end, taken_on, taken_feed, node_taken, node_stuck}
+use Rattle.spelling.proofs.Counted.{matches}
 use Rattle.spelling.proofs.is_formula.Given as goal
 
 abbrev pub invariant-loop-needed : goal.invariant-loop-needed

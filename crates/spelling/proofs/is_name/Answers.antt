@@ -1,6 +1,5 @@
 -- `spelling::is_name_lem` meets its contract. The invariant: the bytes passed are characters of a name, so the whole is a name if the rest
 -- has only such characters.
-use Prim.Native.Nat.{◌-◌}
 use mathlib.Core.Path.{sym, ◌∙◌}
 use Rattle.infon.specs.Formula.{is_name_byte}
 use Rattle.spelling.proofs.Bytewise.{every_turn, every_stop, every_over, name_empty, name_long, name_bytes}

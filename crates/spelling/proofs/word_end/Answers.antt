@@ -1,5 +1,4 @@
 -- `spelling::word_end` meets its contract. The invariant: what is counted of the token and what is left of it are the whole token.
-use Prim.Native.Nat.{◌-◌}
 use mathlib.Core.Path.{sym, ◌∙◌}
 use Rattle.spelling.specs.Token.{is_break}
 use Rattle.spelling.proofs.Breaks.{until_stop, until_turn, until_over}

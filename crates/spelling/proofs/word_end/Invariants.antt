@@ -1,7 +1,7 @@
 use Prim.Native.Nat.{◌+◌, ◌≤◌, ◌-◌}
-use mathlib.Core.Path.{◌≡◌, sym, ◌∙◌}
+use mathlib.Core.Path.{◌≡◌}
 use lib.ListN.{length, drop}
-use Rattle.spelling.specs.Token.{is_break, word_length}
+use Rattle.spelling.specs.Token.{word_length}
 use Rattle.spelling.proofs.word_end.Given as goal
 
 abbrev pub invariant-loop-i : goal.invariant-loop-i

@@ -2,7 +2,7 @@
 use native.Mathlib.Omega.{arith}
 use Prim.Native.Nat.{◌-◌}
 use mathlib.Core.Path.{◌≡◌, sym, ◌∙◌, ap}
-use Rattle.twins.specs.Twins.{are_twins, first_from, twin_of}
+use Rattle.twins.specs.Twins.{first_from, twin_of}
 use Rattle.twins.proofs.Walks.{first_here, first_later, first_none}
 use Rattle.twins.proofs.first_twin.Goals as goal
 

@@ -1,5 +1,5 @@
 use Prim.Native.Nat.{ℕ, ◌≤◌, ◌-◌}
-use mathlib.Core.Path.{◌≡◌, sym, ◌∙◌, ap}
+use mathlib.Core.Path.{◌≡◌}
 use Rattle.nodes.specs.Nodes.{node_at, nodes_of}
 use Rattle.twins.specs.Twins.{are_twins, first_from, twin_of}
 use Rattle.twins.proofs.first_twin.Given as goal

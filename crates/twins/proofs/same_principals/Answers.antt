@@ -1,6 +1,6 @@
 -- `twins::same_principals` meets its contract: as long as the principals agree, the prefixes do exactly if what is left of them does.
 use native.Mathlib.Omega.{arith}
-use Prim.Native.Nat.{ℕ, ◌≤◌, ◌-◌}
+use Prim.Native.Nat.{ℕ, ◌≤◌}
 use mathlib.Core.Path.{refl, sym, ◌∙◌, ap, subst}
 use lib.ListN.{length, get_or, take}
 use Rattle.prefix.specs.Places.{EachPlace, blank}

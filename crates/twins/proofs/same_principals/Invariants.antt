@@ -1,7 +1,7 @@
-use Prim.Native.Nat.{ℕ, ◌≤◌, ◌-◌}
-use mathlib.Core.Path.{◌≡◌, refl, sym, ◌∙◌, ap, subst}
-use lib.ListN.{length, get_or, take, drop}
-use Rattle.twins.specs.Twins.{same_places, Quoting}
+use Prim.Native.Nat.{◌≤◌, ◌-◌}
+use mathlib.Core.Path.{◌≡◌}
+use lib.ListN.{take, drop}
+use Rattle.twins.specs.Twins.{same_places}
 use Rattle.twins.proofs.same_principals.Given as goal
 
 abbrev pub invariant-loop-k : goal.invariant-loop-k

@@ -1,6 +1,5 @@
 -- `walk::too_many` meets its contract. The invariant: `at` and `line` are where node `count` and its line begin, or the file
 -- is at its end.
-use Prim.Native.Nat.{◌-◌}
 use mathlib.Core.Path.{sym, ◌∙◌, ap}
 use Rattle.infon.specs.Policy.{most_nodes}
 use Rattle.walk.specs.Walking.{behind_own}

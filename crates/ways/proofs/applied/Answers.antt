@@ -1,6 +1,5 @@
 -- `ways::applied` meets its contract. The loop's invariant: the best pair of premises among those passed along the chain of f.
-use Prim.Native.Nat.{◌-◌, suc}
-use mathlib.Core.Logic.{⊎_elim}
+use Prim.Native.Nat.{suc}
 use native.Mathlib.Omega.{arith}
 use Rattle.links.specs.Chains.{FirstFrom}
 use Rattle.ways.proofs.Leads.{goes_on, chain_step}
@@ -51,8 +50,10 @@ loop-q-preserved c =
     chain_step _ 3 _ _ 8192 _ _ start.requires.0.right_chains start.requires.1 inside (loop.loop-q.invariant.here inside) c.linked_at-q-in-loop-q.ensures in
     let turn = c in
     let inside = turn.loop-q-test.true in
-    elim c.if-p-first.branch [ then-p-first w ↦ rw (w.first-is, w.second-is) (best_taken _ _ _ _ _ _ _ turn.loop-q.invariant inside turn.condition-p.ensures w.if-p-first.true (step))
-    | else-p-first w ↦ rw (w.first-is, w.second-is) (best_kept _ _ _ _ _ _ _ turn.loop-q.invariant inside turn.condition-p.ensures w.if-p-first.false (step)) ]
+    elim c.if-p-first.branch [
+      | then-p-first w ↦ rw (w.first-is, w.second-is) (best_taken _ _ _ _ _ _ _ turn.loop-q.invariant inside turn.condition-p.ensures w.if-p-first.true (step))
+      | else-p-first w ↦ rw (w.first-is, w.second-is) (best_kept _ _ _ _ _ _ _ turn.loop-q.invariant inside turn.condition-p.ensures w.if-p-first.false (step))
+    ]
 
 pub returns-then-first-n : goal.returns-then-first-n
 returns-then-first-n c = best_found _ _ _ _ _ _ _ c.loop-q.invariant c.loop-q-test.false c.if-first-n.true

@@ -1,5 +1,5 @@
-use Prim.Native.Nat.{◌-◌, suc}
-use Rattle.ways.proofs.Pairs.{Best, best_begins, best_taken, best_kept, best_found, best_none}
+use Prim.Native.Nat.{◌-◌}
+use Rattle.ways.proofs.Pairs.{Best}
 use Rattle.ways.proofs.applied.Given as goal
 
 abbrev pub invariant-loop-q : goal.invariant-loop-q

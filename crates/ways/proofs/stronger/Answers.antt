@@ -1,7 +1,6 @@
 -- `ways::stronger` meets its contract. The loop's invariant: a walk along the chain of f's bottom.
-use Prim.Native.Nat.{ℕ, ◌-◌, ◌<◌}
+use Prim.Native.Nat.{ℕ, ◌<◌}
 use mathlib.Core.Path.{◌≡◌}
-use mathlib.Core.Logic.{⊎_elim}
 use mathlib.Core.Bool.{false}
 use native.Mathlib.Omega.{arith}
 use Rattle.infon.specs.declared.Way.TheVariants.{Weaken}
@@ -62,8 +61,10 @@ pub loop-p-smaller : goal.loop-p-smaller
 loop-p-smaller c =
     let failed : (let loop = c in
     let a = loop.args in
-    leads_to a.table.now a.n a.marks.now a.f (Weaken loop.loop-p.p) ≡ false) = elim c.if-is_marked.branch [ then-is_marked+else-weakens w ↦ weaken_stays _ _ _ _ _ w.weakens.ensures w.if-weakens.false
-    | else-is_marked w ↦ weaken_unmarked _ _ _ _ _ c.is_marked.ensures w.if-is_marked.false ] in
+    leads_to a.table.now a.n a.marks.now a.f (Weaken loop.loop-p.p) ≡ false) = elim c.if-is_marked.branch [
+      | then-is_marked+else-weakens w ↦ weaken_stays _ _ _ _ _ w.weakens.ensures w.if-weakens.false
+      | else-is_marked w ↦ weaken_unmarked _ _ _ _ _ c.is_marked.ensures w.if-is_marked.false
+    ] in
     let turn : (let loop = c in
     let a = loop.args in
     Walked (λ (q : ℕ). leads_to a.table.now a.n a.marks.now a.f (Weaken q)) a.table.now 4 (cell a.table.now 4 a.f) a.n
@@ -82,8 +83,10 @@ pub loop-p-preserved : goal.loop-p-preserved
 loop-p-preserved c =
     let failed : (let loop = c in
     let a = loop.args in
-    leads_to a.table.now a.n a.marks.now a.f (Weaken loop.loop-p.p) ≡ false) = elim c.if-is_marked.branch [ then-is_marked+else-weakens w ↦ weaken_stays _ _ _ _ _ w.weakens.ensures w.if-weakens.false
-    | else-is_marked w ↦ weaken_unmarked _ _ _ _ _ c.is_marked.ensures w.if-is_marked.false ] in
+    leads_to a.table.now a.n a.marks.now a.f (Weaken loop.loop-p.p) ≡ false) = elim c.if-is_marked.branch [
+      | then-is_marked+else-weakens w ↦ weaken_stays _ _ _ _ _ w.weakens.ensures w.if-weakens.false
+      | else-is_marked w ↦ weaken_unmarked _ _ _ _ _ c.is_marked.ensures w.if-is_marked.false
+    ] in
     let turn : (let loop = c in
     let a = loop.args in
     Walked (λ (q : ℕ). leads_to a.table.now a.n a.marks.now a.f (Weaken q)) a.table.now 4 (cell a.table.now 4 a.f) a.n

@@ -1,8 +1,8 @@
-use Prim.Native.Nat.{ℕ, ◌-◌, ◌<◌}
+use Prim.Native.Nat.{ℕ, ◌-◌}
 use Rattle.infon.specs.declared.Way.TheVariants.{Weaken}
 use Rattle.formulas.specs.Table.{cell}
 use Rattle.formulas.specs.Tests.{leads_to}
-use Rattle.ways.proofs.Leads.{weaken_bottom, Walked, walk_found, walk_over, chain_begins, chain_goes_on, weaken_unmarked, weaken_stays, weaken_passes}
+use Rattle.ways.proofs.Leads.{Walked}
 use Rattle.ways.proofs.stronger.Given as goal
 
 abbrev pub invariant-loop-p : goal.invariant-loop-p

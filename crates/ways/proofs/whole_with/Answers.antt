@@ -1,7 +1,6 @@
 -- `ways::whole_with` meets its contract. The loop's invariant: a walk along the chain of f in the column.
-use Prim.Native.Nat.{◌-◌, ◌<◌}
+use Prim.Native.Nat.{◌<◌}
 use mathlib.Core.Path.{◌≡◌}
-use mathlib.Core.Logic.{⊎_elim}
 use mathlib.Core.Bool.{false}
 use native.Mathlib.Omega.{arith}
 use Rattle.ways.specs.Search.{is_whole, least_whole}
@@ -51,8 +50,10 @@ pub loop-p-smaller : goal.loop-p-smaller
 loop-p-smaller c =
     let failed : (let loop = c in
     let a = loop.args in
-    is_whole a.column a.table.now a.n a.marks.now a.f loop.loop-p.p ≡ false) = elim c.if-is_marked.branch [ then-is_marked+else-has_part w ↦ whole_other _ _ _ _ _ _ w.has_part.ensures w.if-has_part.false
-    | else-is_marked w ↦ whole_unmarked _ _ _ _ _ _ c.is_marked.ensures w.if-is_marked.false ] in
+    is_whole a.column a.table.now a.n a.marks.now a.f loop.loop-p.p ≡ false) = elim c.if-is_marked.branch [
+      | then-is_marked+else-has_part w ↦ whole_other _ _ _ _ _ _ w.has_part.ensures w.if-has_part.false
+      | else-is_marked w ↦ whole_unmarked _ _ _ _ _ _ c.is_marked.ensures w.if-is_marked.false
+    ] in
     let turn : (let loop = c in
     let a = loop.args in
     Walked (is_whole a.column a.table.now a.n a.marks.now a.f) a.table.now a.column a.f a.n
@@ -70,8 +71,10 @@ pub loop-p-preserved : goal.loop-p-preserved
 loop-p-preserved c =
     let failed : (let loop = c in
     let a = loop.args in
-    is_whole a.column a.table.now a.n a.marks.now a.f loop.loop-p.p ≡ false) = elim c.if-is_marked.branch [ then-is_marked+else-has_part w ↦ whole_other _ _ _ _ _ _ w.has_part.ensures w.if-has_part.false
-    | else-is_marked w ↦ whole_unmarked _ _ _ _ _ _ c.is_marked.ensures w.if-is_marked.false ] in
+    is_whole a.column a.table.now a.n a.marks.now a.f loop.loop-p.p ≡ false) = elim c.if-is_marked.branch [
+      | then-is_marked+else-has_part w ↦ whole_other _ _ _ _ _ _ w.has_part.ensures w.if-has_part.false
+      | else-is_marked w ↦ whole_unmarked _ _ _ _ _ _ c.is_marked.ensures w.if-is_marked.false
+    ] in
     let turn : (let loop = c in
     let a = loop.args in
     Walked (is_whole a.column a.table.now a.n a.marks.now a.f) a.table.now a.column a.f a.n

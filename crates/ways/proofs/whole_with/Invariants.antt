@@ -1,6 +1,6 @@
-use Prim.Native.Nat.{◌-◌, ◌<◌}
-use Rattle.ways.specs.Search.{is_whole, least_whole}
-use Rattle.ways.proofs.Leads.{whole_part, Walked, walk_found, walk_over, chain_begins, chain_goes_on, whole_unmarked, whole_other, whole_passes}
+use Prim.Native.Nat.{◌-◌}
+use Rattle.ways.specs.Search.{is_whole}
+use Rattle.ways.proofs.Leads.{Walked}
 use Rattle.ways.proofs.whole_with.Given as goal
 
 abbrev pub invariant-loop-p : goal.invariant-loop-p

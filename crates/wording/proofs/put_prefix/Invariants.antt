@@ -1,4 +1,4 @@
-use Rattle.wording.proofs.Quoted.{Prefixed, prefix_begins, prefix_turns, prefix_over, place_quoting}
+use Rattle.wording.proofs.Quoted.{Prefixed}
 use Rattle.wording.proofs.put_prefix.Given as goal
 
 abbrev pub invariant-loop-k : goal.invariant-loop-k

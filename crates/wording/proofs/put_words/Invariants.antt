@@ -1,7 +1,6 @@
-use Prim.Native.Nat.{◌-◌}
 use Rattle.nodes.specs.Nodes.{nodes_of}
 use Rattle.wording.specs.Waiting.{waiting_weight}
-use Rattle.wording.proofs.Going.{Going, going_begins, going_over, next_node, next_row, next_ready, going_on, going_down}
+use Rattle.wording.proofs.Going.{Going}
 use Rattle.wording.proofs.put_words.Given as goal
 
 abbrev pub invariant-loop-top : goal.invariant-loop-top

@@ -1,5 +1,4 @@
 -- `policy::filling::fill_above` meets its contract. The invariant: the rows before `i`, and the nodes that wait, have what stands above them.
-use Prim.Native.Nat.{◌-◌}
 use Rattle.policy.proofs.Above.{above_begin, above_over, down_here, forth_reads, forth_depth, forth_turn}
 use native.Mathlib.Omega.{arith}
 use Rattle.policy.proofs.filling.fill_above.Goals as goal

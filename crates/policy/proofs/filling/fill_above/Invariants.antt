@@ -1,5 +1,5 @@
 use Prim.Native.Nat.{◌-◌}
-use Rattle.policy.proofs.Above.{AboveTo, above_begin, above_over, down_here, forth_reads, forth_depth, forth_turn}
+use Rattle.policy.proofs.Above.{AboveTo}
 use Rattle.policy.proofs.filling.fill_above.Given as goal
 
 abbrev pub invariant-loop-i : goal.invariant-loop-i

@@ -1,5 +1,4 @@
-use Prim.Native.Nat.{◌-◌}
-use Rattle.policy.proofs.Ends.{EndsTo, ends_begin, ends_over, back_here, back_reads, back_small, back_turn}
+use Rattle.policy.proofs.Ends.{EndsTo}
 use Rattle.policy.proofs.filling.fill_ends.Given as goal
 
 abbrev pub invariant-loop-i : goal.invariant-loop-i

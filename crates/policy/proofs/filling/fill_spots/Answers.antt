@@ -1,5 +1,4 @@
 -- `policy::filling::fill_spots` meets its contract. The invariant: the walk stands at node `i`, and the rows before it are held.
-use Prim.Native.Nat.{◌-◌}
 use Rattle.policy.proofs.Stages.{kind_small, spots_begin, spots_over, spots_here, spots_end, spots_later, spots_turn}
 use native.Mathlib.Omega.{arith}
 use Rattle.policy.proofs.filling.fill_spots.Goals as goal

@@ -1,6 +1,6 @@
 use Prim.Native.Nat.{◌-◌}
 use lib.ListN.{length}
-use Rattle.policy.proofs.Stages.{kind_small, SpotsTo, spots_begin, spots_over, spots_here, spots_end, spots_later, spots_turn}
+use Rattle.policy.proofs.Stages.{SpotsTo}
 use Rattle.policy.proofs.filling.fill_spots.Given as goal
 
 abbrev pub invariant-loop-at : goal.invariant-loop-at
