@@ -25,7 +25,7 @@ use Rattle.infon.specs.Reasons.{reasons, IsChain}
 use Rattle.infon.specs.Run.{file_codes, file_verdict, is_on_record, written, code7, run}
 use Rattle.infon.specs.Chain.{query_of, code31, code32, code33, ChainOutcome, chain_refusal, lent, chain}
 use Rattle.infon.specs.Board.{CountOutside, count_none, count_beyond, NotRecorded, not_recorded, ChainTooLong, chain_too_long, chain_row}
-use Rattle.infon.proofs.Rows.{or-true, true_or, or_false_both, some_of_witness, witness_some_of}
+use Rattle.infon.proofs.Rows.{or_true, true_or, or_false_both, some_of_witness, witness_some_of}
 use Rattle.infon.proofs.Same.{same_eq}
 use Rattle.infon.proofs.Listed.{numbered_injective, code5_passed}
 use Rattle.infon.proofs.Codec.{length_spelled_all, whole_records_cong}
@@ -69,7 +69,7 @@ module _ (file journal : List ℕ) (used count : ℕ) (out : List ℕ) where
       (λ h.
       ⊎_elim (λ (none : eqb count 0 ≡ true). count_none (eqb-true count 0 none))
       (λ (over : ltb (length queries) count ≡ true). count_beyond (ltb-true (length queries) count over))
-      (or-true (eqb count 0) (ltb (length queries) count) h))
+      (or_true (eqb count 0) (ltb (length queries) count) h))
     where
       inside : {place : ℕ} → CountOutside file count place → (place ≡ 0) × (eqb count 0 || ltb (length queries) count ≡ true)
       inside (count_none e) = (refl, rw (eq-eqb count 0 e))

@@ -15,7 +15,7 @@ use Rattle.infon.specs.Bytes.{some_of}
 use Rattle.infon.specs.Formula.{Formula}
 use Rattle.infon.specs.Journal.{is_recorded, is_for, premises_in, is_good}
 use Rattle.infon.specs.Reasons.{is_premise, is_used, reasons, Within, at_end, taken, passed, IsChain}
-use Rattle.infon.proofs.Rows.{and_true, true_and, or-true, true_or, or_false_both, decided, not_true_false, some_of_witness, witness_some_of}
+use Rattle.infon.proofs.Rows.{and_true, true_and, or_true, true_or, or_false_both, decided, not_true_false, some_of_witness, witness_some_of}
 use Rattle.infon.proofs.Sound.{by_recorded}
 use Rattle.infon.proofs.Grown.{GoodRow, stop, more, good_parts, good_first, good_fresh, recorded_by}
 
@@ -47,7 +47,7 @@ one_of_two : (p q s : ℕ) (done : List Record) → is_recorded q done && is_rec
 one_of_two p q s done all one =
     let both = and_true (is_recorded q done) (is_recorded s done) all in
     ⊎_elim (λ (e : eqb p q ≡ true). rw (eqb-true p q e) both.0) (λ (e : eqb p s ≡ true). rw (eqb-true p s e) both.1)
-    (or-true (eqb p q) (eqb p s) one)
+    (or_true (eqb p q) (eqb p s) one)
 
 -- a premise of a way is recorded where all are
 premise_recorded : (p : ℕ) (w : Way) (done : List Record) → premises_in w done ≡ true → is_premise p w ≡ true → is_recorded p done ≡ true
@@ -241,7 +241,7 @@ module _ (hyps fs : List Formula) (x : Formula) where
       (λ (none : some_of (is_for fs x) later ≡ false). absurd (nil≢cons (sym (none_behind fs x later behind m none) ∙ then)))
       (decided (some_of (is_for fs x) later)))
       (λ (used : is_used q.formula behind ≡ true). rw (← same, ← then) used)
-      (or-true (is_for fs x q) (is_used q.formula behind) t)
+      (or_true (is_for fs x q) (is_used q.formula behind) t)
   listed_needed once done rest row goods (listed q later behind t m) (s ∷ before) after r next e =
       listed_needed once (done ++ (q ∷ [])) later behind (good_first hyps fs done q later goods).1 m before after r next (tail-eq_of_cons-eq e)
   listed_needed once done rest row goods (left_out q later behind t m) before after r next e =
@@ -362,7 +362,7 @@ module _ (hyps fs : List Formula) (x : Formula) where
       (not_true_false (is_for fs x r || is_used r.formula behind)
       (λ (h : is_for fs x r || is_used r.formula behind ≡ true).
       ⊎_elim (passed_other once part done behind later r w goods gone) (passed_unused part done behind later r w goods gone)
-      (or-true (is_for fs x r) (is_used r.formula behind) h)))
+      (or_true (is_for fs x r) (is_used r.formula behind) h)))
       (chain_reasoned once part (done ++ (r ∷ [])) behind later w first.1 (gone_passed part done behind r first.0 gone))
 
   gone_nothing : (kept row : List Record) → IsChain fs x kept row → Gone [] [] row

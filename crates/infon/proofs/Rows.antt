@@ -19,9 +19,9 @@ and_true false b h = absurd (false≢true h)
 pub true_and : {a b : Bool} → a ≡ true → b ≡ true → a && b ≡ true
 true_and {a} {b} p q = rw p q
 
-pub or-true : (a b : Bool) → a || b ≡ true → (a ≡ true) ⊎ (b ≡ true)
-or-true true b h = inl refl
-or-true false b h = inr h
+pub or_true : (a b : Bool) → a || b ≡ true → (a ≡ true) ⊎ (b ≡ true)
+or_true true b h = inl refl
+or_true false b h = inr h
 
 pub true_or : (a : Bool) {b : Bool} → b ≡ true → a || b ≡ true
 true_or true h = refl
@@ -73,7 +73,7 @@ module _ {A : Type 0} (test : A → Bool) where
   some_of_witness (x ∷ xs) h =
       ⊎_elim (λ here. (x, (Memᴰ.head refl, here)))
       (λ later. found_later (some_of_witness xs later))
-      (or-true (test x) (some_of test xs) h)
+      (or_true (test x) (some_of test xs) h)
 
   pub witness_some_of : {x : A} {xs : List A} → Memᴰ x xs → test x ≡ true → some_of test xs ≡ true
   unfolding some_of

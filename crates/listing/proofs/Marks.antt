@@ -179,9 +179,9 @@ module _ (file t : List ℕ) (count : ℕ) (cand before table : List ℕ) (r : �
   -- a mark is 0 or 1, so it fits a cell
   pub mark_fits : (number letter old new : ℕ) → number ≡ form_number t cand r 0 → old ≡ cell table hypothesis_at number → new ≡ marked_by letter old
       → new < 65536
-  mark_fits number letter old new number_is old-is New-is =
+  mark_fits number letter old new number_is old_is new_is =
       let few : number < length gs = rw number_is (line_number_few file t count cand ready r so.es so.ahead h) in
-      let small : old ≤ 1 = rw (old-is, so.cells number few) (flag_small (is_listed (numbered gs number) so.done)) in
+      let small : old ≤ 1 = rw (old_is, so.cells number few) (flag_small (is_listed (numbered gs number) so.done)) in
       omega (arith, marked_small letter old small)
 
   once : (i j : ℕ) → i < length gs → j < length gs → numbered gs i ≡ numbered gs j → i ≡ j
@@ -262,11 +262,11 @@ module _ (file t : List ℕ) (count : ℕ) (cand before table : List ℕ) (r : �
   pub marks_on : (number start old new end : ℕ) (marked : List ℕ) → number ≡ form_number t cand r 0 → start ≡ node_cell t node_line r
       → old ≡ cell table hypothesis_at number → new ≡ marked_by (get_or file start 0) old → marked ≡ with_cell table hypothesis_at number new
       → end ≡ node_cell t node_end r → MarksTo file before marked end
-  marks_on number start old new end marked number_is start_is old-is New-is marked_is end_is =
+  marks_on number start old new end marked number_is start_is old_is new_is marked_is end_is =
       let e : number ≡ at = number_is ∙ line_number file t count cand ready r so.es so.ahead h in
       let f : get_or file start 0 ≡ letter_byte line.entry.sentence =
       ap (λ (k : ℕ). get_or file k 0) start_is ∙ line_letter file t count cand ready r so.es so.ahead h in
-      rw (marked_is, New-is, old-is, f, e, end_is) (by_sentence line.entry.sentence refl)
+      rw (marked_is, new_is, old_is, f, e, end_is) (by_sentence line.entry.sentence refl)
 
 pub marks_over : (file before table : List ℕ) (r : ℕ) → MarksTo file before table r → count_nodes (nodes_of file) ≤ r → HypothesesMarked file before table
 unfolding hypotheses_of

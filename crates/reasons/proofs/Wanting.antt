@@ -36,7 +36,7 @@ none_there o wanted e told = rw (read_none o e told)
 pub wanted_there : (o : Option Record) (wanted : List ℕ) (r : Record) {d : Decoded} {b : Bool} → d ≡ to_decoded o → d ≡ Reads.Record r
     → b ≡ is_wanted wanted r.formula → b ≡ true → Reads.Record r ≡ to_decoded (only_wanted wanted o)
 unfolding only_wanted
-wanted_there o wanted r e told says on_Row = rw (read_some o r e told, ← says, on_Row)
+wanted_there o wanted r e told says on_row = rw (read_some o r e told, ← says, on_row)
 
 pub unwanted_there : (o : Option Record) (wanted : List ℕ) (r : Record) {d : Decoded} {b : Bool} → d ≡ to_decoded o → d ≡ Reads.Record r
     → b ≡ is_wanted wanted r.formula → b ≡ false → Reads.Nothing ≡ to_decoded (only_wanted wanted o)

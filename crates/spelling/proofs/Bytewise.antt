@@ -15,20 +15,20 @@ use Rattle.infon.specs.Bytes.{alike, every}
 use Rattle.infon.specs.Formula.{is_name_byte, is_name}
 use Rattle.infon.proofs.Rows.{decided, alike_eq}
 
-or-false : (t : Bool) → t || false ≡ t
-or-false true = refl
-or-false false = refl
+or_false : (t : Bool) → t || false ≡ t
+or_false true = refl
+or_false false = refl
 
 -- The characters of a name, by where they stand among the bytes.
 module _ (b : ℕ) where
   pub letter_byte_lem : 97 ≤ b → leb b 122 ≡ is_name_byte b
   unfolding is_name_byte
   letter_byte_lem h =
-      rw (le-leb 97 b h, le-leb 48 b (omega arith), lt-leb b 57 (omega arith), ne_eqb b 45 (omega arith)) (simp or-false)
+      rw (le-leb 97 b h, le-leb 48 b (omega arith), lt-leb b 57 (omega arith), ne_eqb b 45 (omega arith)) (simp or_false)
 
   pub digit_byte : b < 97 → 48 ≤ b → leb b 57 ≡ is_name_byte b
   unfolding is_name_byte
-  digit_byte h k = rw (lt-leb 97 b h, le-leb 48 b k, ne_eqb b 45 (omega arith)) (simp or-false)
+  digit_byte h k = rw (lt-leb 97 b h, le-leb 48 b k, ne_eqb b 45 (omega arith)) (simp or_false)
 
   pub hyphen_byte : b < 97 → b < 48 → eqb b 45 ≡ is_name_byte b
   unfolding is_name_byte

@@ -14,7 +14,7 @@ use borrow.Author.Tests.{eqb-true}
 use Rattle.infon.specs.Bytes.{bytes, space, line_feed, every}
 use Rattle.infon.specs.Formula.{Formula, is_name_byte, is_name, tokens, formula_of}
 use Rattle.infon.specs.Policy.{is_some}
-use Rattle.infon.proofs.Rows.{and_true, or-true, or_false_both, decided}
+use Rattle.infon.proofs.Rows.{and_true, or_true, or_false_both, decided}
 use Rattle.infon.proofs.Words.{every_append, lacks, lacks_cons, cons_lacks, tokens_word, tokens_last}
 use Rattle.infon.proofs.Readable.{is_word_byte, name_lacks, spelling_read, spelling_lacks_line_feed}
 use Rattle.spelling.specs.Token.{is_break, until_first, word_length, word_at}
@@ -72,7 +72,7 @@ feed_no_formula text k rest h =
 -- what a break is
 pub break_cases : (b : ℕ) → is_break b ≡ true → (b ≡ space) ⊎ (b ≡ line_feed)
 unfolding is_break
-break_cases b h = ⊎_elim (λ e. inl (eqb-true b space e)) (λ e. inr (eqb-true b line_feed e)) (or-true (eqb b space) (eqb b line_feed) h)
+break_cases b h = ⊎_elim (λ e. inl (eqb-true b space e)) (λ e. inr (eqb-true b line_feed e)) (or_true (eqb b space) (eqb b line_feed) h)
 
 -- The token at a place comes first among the tokens from there on, or the text is no formula.
 pub first_token : (text : List ℕ) (at : ℕ)

@@ -29,15 +29,15 @@ overflow_mul-key c = omega (arith, c.requires.twin_few)
 
 pub overflow_add-key : goal.overflow_add-key
 overflow_add-key c =
-    let few-puts : c.puts-puts.result < 16 = let s = c in
+    let few_puts : c.puts-puts.result < 16 = let s = c in
     puts_below s.args.p s.requires.sized _ _ (c.puts-puts.ensures ∙ ap (λ (q : Prefix). puts_of (used q)) c.weaker.ensures) in
-    omega (arith, c.requires.twin_few, few-puts)
+    omega (arith, c.requires.twin_few, few_puts)
 
 pub overflow_cast-key : goal.overflow_cast-key
 overflow_cast-key c =
-    let few-puts : c.puts-puts.result < 16 = let s = c in
+    let few_puts : c.puts-puts.result < 16 = let s = c in
     puts_below s.args.p s.requires.sized _ _ (c.puts-puts.ensures ∙ ap (λ (q : Prefix). puts_of (used q)) c.weaker.ensures) in
-    omega (arith, c.requires.twin_few, few-puts)
+    omega (arith, c.requires.twin_few, few_puts)
 
 pub find-at-requires : goal.find-at-requires
 find-at-requires c = omega (arith, key_room _ _ _ _ _ _ _ _ _ _ _ _ _ c.requires c.weaker_count-all.ensures c.loop-m.invariant c.loop-m-test.true)

@@ -1,4 +1,4 @@
--- `spelling::is_name_lem` meets its contract. The invariant: the bytes passed are characters of a name, so the whole is a name if the rest
+-- `spelling::is_name` meets its contract. The invariant: the bytes passed are characters of a name, so the whole is a name if the rest
 -- has only such characters.
 use mathlib.Core.Path.{sym, ◌∙◌}
 use Rattle.infon.specs.Formula.{is_name_byte}

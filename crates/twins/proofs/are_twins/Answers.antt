@@ -11,13 +11,13 @@ use Rattle.twins.proofs.are_twins.Goals as goal
 
 pub cell_at-requires : goal.cell_at-requires
 cell_at-requires c =
-    let row-i : c.args.i < 1024 = omega (arith, count_few _ _ c.requires.0, c.requires.1.0) in
-    let s = c in record { inside = (omega arith, row-i); whole = table_long _ _ s.requires.0 }
+    let row_i : c.args.i < 1024 = omega (arith, count_few _ _ c.requires.0, c.requires.1.0) in
+    let s = c in record { inside = (omega arith, row_i); whole = table_long _ _ s.requires.0 }
 
 pub cell_at-requires-2 : goal.cell_at-requires-2
 cell_at-requires-2 c =
-    let row-j : c.args.j < 1024 = omega (arith, count_few _ _ c.requires.0, c.requires.1.1) in
-    let s = c in record { inside = (omega arith, row-j); whole = table_long _ _ s.requires.0 }
+    let row_j : c.args.j < 1024 = omega (arith, count_few _ _ c.requires.0, c.requires.1.1) in
+    let s = c in record { inside = (omega arith, row_j); whole = table_long _ _ s.requires.0 }
 
 pub returns-then-cell_at : goal.returns-then-cell_at
 returns-then-cell_at c =
