@@ -141,6 +141,7 @@ fn list_nodes(
 }
 
 // A formula is marked by a line `H`, and otherwise as it was.
+#[tactic(auto, unfolding(crate::specs::Lines::marked_by))]
 fn mark(letter: u8, old: usize) -> usize
     ensures { result ≡ marked_by letter old }
 {
