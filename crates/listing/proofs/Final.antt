@@ -206,3 +206,19 @@ fresh =
 
 pub still_long : (n : ℕ) (s : List ℕ) → length s ≡ length {A = ℕ} (replicate n 0) → n ≤ length s
 still_long n s e = omega (arith, length-replicate {A = ℕ} n 0)
+
+-- where the nodes were listed with no refusal, the list is whole
+pub whole_list : {file t : List ℕ} {count : ℕ} {table queries : List ℕ} {counted : Counted} → ListReady file t count table queries
+    → (cand : List ℕ) → length cand ≡ length {A = ℕ} (replicate 16384 0)
+    → (keys : List ℕ) → length keys ≡ length {A = ℕ} (replicate 4112 0)
+    → (owners : List ℕ) → length owners ≡ length {A = ℕ} (replicate 4112 0)
+    → NodesListed file counted cand keys owners → counted.verdict ≡ Passed
+    → WholeList file t count table queries cand keys owners counted
+whole_list ready cand c keys k owners o listed passed = record {
+  ready = ready;
+  cand_long = still_long 16384 cand c;
+  keys_long = omega (arith, still_long 4112 keys k);
+  owners_long = omega (arith, still_long 4112 owners o);
+  listed = listed;
+  passed = passed;
+}

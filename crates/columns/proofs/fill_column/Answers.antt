@@ -12,34 +12,32 @@ loop-i-init c = (omega arith, refl)
 
 pub cell_of-cell-requires : goal.cell_of-cell-requires
 cell_of-cell-requires c =
-    let s = c in
-    let owners = s.requires.0.owners_are in (
+    let owners = c.requires.0.owners_are in (
       record {
         inside = omega (arith, owners.inside);
         owner = owners.owned c.loop-i.i c.loop-i-test.true;
-        cand_long = s.requires.0.cand_long;
+        cand_long = c.requires.0.cand_long;
       },
       omega arith,
-      s.requires.2,
+      c.requires.2,
     )
 
 pub set_cell-requires : goal.set_cell-requires
 set_cell-requires c =
-    let s = c in record {
+    record {
       inside = (
-        omega (arith, s.requires.0.table_long, column_size _ _ _ _ _ c.loop-i.invariant.1),
-        s.requires.2,
-        omega (arith, s.requires.0.owners_are.few),
+        omega (arith, c.requires.0.table_long, column_size _ _ _ _ _ c.loop-i.invariant.1),
+        c.requires.2,
+        omega (arith, c.requires.0.owners_are.few),
       );
       fits = search rules;
     }
 
 pub loop-i-preserved : goal.loop-i-preserved
-loop-i-preserved c =
-    let at = c in (
-      omega (arith, c.loop-i-test.true),
-      column_turn _ _ at.loop-i.i _ _ _ _ at.loop-i.invariant.1 c.cell_of-cell.ensures c.set_cell.ensures,
-    )
+loop-i-preserved c = (
+  omega (arith, c.loop-i-test.true),
+  column_turn _ _ c.loop-i.i _ _ _ _ c.loop-i.invariant.1 c.cell_of-cell.ensures c.set_cell.ensures,
+)
 
 pub returns : goal.returns
 returns c = column_over _ _ c.loop-i.i c.args.n _ _ c.loop-i.invariant.1 c.loop-i.invariant.0 c.loop-i-test.false

@@ -9,8 +9,7 @@ cell_at-kind-requires c =
 
 pub loop-kind-init : goal.loop-kind-init
 loop-kind-init c =
-    let s = c in
-    going_begins s.args.nodes.now s.args.cand.now s.args.j s.args.m _ s.requires.0 c.cell_at-kind.ensures
+    going_begins c.args.nodes.now c.args.cand.now c.args.j c.args.m _ c.requires.0 c.cell_at-kind.ensures
 
 pub inward-form-requires : goal.inward-form-requires
 inward-form-requires c = omega (arith, form_few _ _ _ c.loop-kind.invariant.is_form)

@@ -17,9 +17,8 @@ overflow_add-b c = omega (arith, form_row _ _ _ c.requires.owner.0)
 
 pub form_number-requires : goal.form_number-requires
 form_number-requires c =
-    let s = c in
     let two = subst (λ (k : ℕ). 2 ≤ k) c.cell_at.ensures c.if-cell_at-lt-AND.false in
-    (left_is_form _ _ _ s.requires.owner.0 two s.requires.owner.1, s.requires.cand_long)
+    (left_is_form _ _ _ c.requires.owner.0 two c.requires.owner.1, c.requires.cand_long)
 
 pub returns : goal.returns
 returns c = c.form_number.ensures ∙ left_some _ _ _ _ _ c.cell_at.ensures c.if-cell_at-lt-AND.false

@@ -22,9 +22,8 @@ cell_at-right-requires c =
 
 pub form_number-requires : goal.form_number-requires
 form_number-requires c =
-    let s = c in
     let two = subst (λ (k : ℕ). 2 ≤ k) c.cell_at.ensures c.if-cell_at-lt-AND.false in
-    (rw c.cell_at-right.ensures (right_is_form _ _ _ s.requires.owner.0 two s.requires.owner.1), s.requires.cand_long)
+    (rw c.cell_at-right.ensures (right_is_form _ _ _ c.requires.owner.0 two c.requires.owner.1), c.requires.cand_long)
 
 pub returns : goal.returns
 returns c =

@@ -7,8 +7,7 @@ loop-i-init c = taking_begins _ _ _ _
 
 pub loop-i-preserved : goal.loop-i-preserved
 loop-i-preserved c =
-    let turn = c in
-    taking_turn _ _ _ turn.loop-i.invariant turn.loop-i-test.true c.take_in.ensures
+    taking_turn _ _ _ c.loop-i.invariant c.loop-i-test.true c.take_in.ensures
 
 pub returns : goal.returns
 returns c = taking_over _ _ _ c.loop-i.invariant c.loop-i-test.false

@@ -5,24 +5,19 @@ use Rattle.frontier.proofs.meet_chain.Goals as goal
 
 pub loop-g-init : goal.loop-g-init
 loop-g-init c =
-    let start = c in
-    meeting_begins _ _ _ _ _ start.args.links.now _ _ start.requires.5 start.requires.2 _ c.linked_at-g.ensures
+    meeting_begins _ _ _ _ _ c.args.links.now _ _ c.requires.5 c.requires.2 _ c.linked_at-g.ensures
 
 pub loop-g-smaller : goal.loop-g-smaller
 loop-g-smaller c =
-    let turn = c in
-    let start = turn in
     omega (
       arith,
-      meeting_further _ _ _ _ _ start.args.links.now _ _ start.requires.5 start.requires.2 turn.loop-g.invariant turn.loop-g-test.true
+      meeting_further _ _ _ _ _ c.args.links.now _ _ c.requires.5 c.requires.2 c.loop-g.invariant c.loop-g-test.true
           c.linked_at-g-in-loop-g.ensures,
     )
 
 pub loop-g-preserved : goal.loop-g-preserved
 loop-g-preserved c =
-    let turn = c in
-    let start = turn in
-    meeting_turn _ _ _ _ _ start.args.links.now _ _ start.requires.5 start.requires.2 turn.loop-g.invariant turn.loop-g-test.true
+    meeting_turn _ _ _ _ _ c.args.links.now _ _ c.requires.5 c.requires.2 c.loop-g.invariant c.loop-g-test.true
     c.linked_at-g-in-loop-g.ensures c.meet.ensures
 
 pub returns : goal.returns

@@ -19,27 +19,21 @@ remove-requires c =
 
 pub returns-in-By : goal.returns-in-By
 returns-in-By c =
-    let turn = c in
-    let start = turn in
-    passing_found _ _ _ turn.loop-f.invariant turn.loop-f-test.true turn.due_way-due.ensures start.requires.0.few
-    start.requires.1 c.remove.ensures c.in-By.is
+    passing_found _ _ _ c.loop-f.invariant c.loop-f-test.true c.due_way-due.ensures c.requires.0.few
+    c.requires.1 c.remove.ensures c.in-By.is
 
 pub loop-f-smaller : goal.loop-f-smaller
 loop-f-smaller c =
-    let turn = c in
-    let start = turn in
     omega (
       arith,
-      passing_further _ _ _ turn.loop-f.invariant turn.loop-f-test.true turn.due_way-due.ensures start.requires.0.few
-          start.requires.1 c.remove.ensures c.in_default.is c.least-f-in-loop-f.ensures,
+      passing_further _ _ _ c.loop-f.invariant c.loop-f-test.true c.due_way-due.ensures c.requires.0.few
+          c.requires.1 c.remove.ensures c.in_default.is c.least-f-in-loop-f.ensures,
     )
 
 pub loop-f-preserved : goal.loop-f-preserved
 loop-f-preserved c =
-    let turn = c in
-    let start = turn in
-    passing_turn _ _ _ turn.loop-f.invariant turn.loop-f-test.true turn.due_way-due.ensures start.requires.0.few
-    start.requires.1 c.remove.ensures c.in_default.is c.least-f-in-loop-f.ensures
+    passing_turn _ _ _ c.loop-f.invariant c.loop-f-test.true c.due_way-due.ensures c.requires.0.few
+    c.requires.1 c.remove.ensures c.in_default.is c.least-f-in-loop-f.ensures
 
 pub returns : goal.returns
 returns c = passing_over _ _ _ c.loop-f.invariant c.loop-f-test.false

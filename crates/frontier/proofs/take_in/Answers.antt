@@ -4,14 +4,9 @@ use Rattle.frontier.proofs.take_in.Goals as goal
 
 pub returns-then-is_marked : goal.returns-then-is_marked
 returns-then-is_marked c =
-    let test = c in
-    let second = test in
-    let first = second in
-    taken_marked _ _ _ _ _ first.want.ensures second.want-2.ensures test.is_marked.ensures test.if-is_marked.true
+    taken_marked _ _ _ _ _ c.want.ensures c.want-2.ensures c.is_marked.ensures c.if-is_marked.true
     c.touch.ensures
 
 pub returns-else-is_marked : goal.returns-else-is_marked
 returns-else-is_marked c =
-    let second = c in
-    let first = second in
-    taken_open _ _ _ _ _ first.want.ensures second.want-2.ensures c.is_marked.ensures c.if-is_marked.false
+    taken_open _ _ _ _ _ c.want.ensures c.want-2.ensures c.is_marked.ensures c.if-is_marked.false

@@ -13,8 +13,7 @@ insert-requires c =
 
 pub returns-then-is_good : goal.returns-then-is_good
 returns-then-is_good c =
-    let test = c in
-    is_wanted_lem _ _ _ _ _ test.is_good.ensures test.if-is_good.true c.insert.ensures
+    is_wanted_lem _ _ _ _ _ c.is_good.ensures c.if-is_good.true c.insert.ensures
 
 pub returns-else-is_good : goal.returns-else-is_good
 returns-else-is_good c = bad_wanted _ _ _ _ _ c.is_good.ensures c.if-is_good.false

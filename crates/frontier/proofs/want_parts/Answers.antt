@@ -4,6 +4,5 @@ use Rattle.frontier.proofs.want_parts.Goals as goal
 
 pub returns : goal.returns
 returns c =
-    let first = c in
-    parts_wanted _ _ _ _ _ first.cell_at-left.ensures first.cell_at-right.ensures first.want.ensures
+    parts_wanted _ _ _ _ _ c.cell_at-left.ensures c.cell_at-right.ensures c.want.ensures
     c.want-2.ensures

@@ -12,41 +12,33 @@ next_record-requires c =
 
 pub returns-in_default : goal.returns-in_default
 returns-in_default c =
-    let found = c in
-    none_added found.requires found.next_record.ensures c.in_default.is
+    none_added c.requires c.next_record.ensures c.in_default.is
 
 pub overflow_mul-at : goal.overflow_mul-at
 overflow_mul-at c =
-    let found = c in
-    omega (arith, record_room found.requires found.next_record.ensures _ c.in-Due.is, found.well_formed.1.1.1.1.1.0.0)
+    omega (arith, record_room c.requires c.next_record.ensures _ c.in-Due.is, c.well_formed.1.1.1.1.1.0.0)
 
 pub slice_bounds-encode-count : goal.slice_bounds-encode-count
 slice_bounds-encode-count c =
-    let found = c in
-    omega (arith, record_room found.requires found.next_record.ensures _ c.in-Due.is)
+    omega (arith, record_room c.requires c.next_record.ensures _ c.in-Due.is)
 
 pub slice_bounds-encode-start : goal.slice_bounds-encode-start
 slice_bounds-encode-start c =
-    let found = c in
-    omega (arith, record_room found.requires found.next_record.ensures _ c.in-Due.is)
+    omega (arith, record_room c.requires c.next_record.ensures _ c.in-Due.is)
 
 pub encode-requires : goal.encode-requires
 encode-requires c =
-    let found = c in
-    simp (length-take, length-drop) (omega (arith, record_room found.requires found.next_record.ensures _ c.in-Due.is))
+    simp (length-take, length-drop) (omega (arith, record_room c.requires c.next_record.ensures _ c.in-Due.is))
 
 pub bounds-marks-formula : goal.bounds-marks-formula
 bounds-marks-formula c =
-    let found = c in
-    mark_place found.requires found.next_record.ensures _ c.in-Due.is
+    mark_place c.requires c.next_record.ensures _ c.in-Due.is
 
 pub touch-requires : goal.touch-requires
 touch-requires c =
-    let found = c in
-    let pre = found.requires in
-    (ready_marked pre.ready (simp length-set), omega (arith, pre.long, found.next_record.ensures.long), listed pre found.next_record.ensures _ c.in-Due.is)
+    let pre = c.requires in
+    (ready_marked pre.ready (simp length-set), omega (arith, pre.long, c.next_record.ensures.long), listed pre c.next_record.ensures _ c.in-Due.is)
 
 pub returns : goal.returns
 returns c =
-    let found = c in
-    one_added found.requires found.next_record.ensures _ c.in-Due.is c.encode.ensures c.touch.ensures
+    one_added c.requires c.next_record.ensures _ c.in-Due.is c.encode.ensures c.touch.ensures

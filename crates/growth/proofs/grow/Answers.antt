@@ -9,32 +9,27 @@ use Rattle.growth.proofs.grow.Goals as goal
 
 pub loop-added-init : goal.loop-added-init
 loop-added-init c =
-    let start = c in
-    (begin start.requires, covering_filled start.requires.ready _ (search rules) c.begin.ensures)
+    (begin c.requires, covering_filled c.requires.ready _ (search rules) c.begin.ensures)
 
 pub loop-added-preserved : goal.loop-added-preserved
 loop-added-preserved c =
-    let call = c in
-    let inv = call.loop-added.invariant in
-    turn inv.0 call.add_next.ensures _ call.loop-added-test.true inv.1.long c.in-Due.is
+    let inv = c.loop-added.invariant in
+    turn inv.0 c.add_next.ensures _ c.loop-added-test.true inv.1.long c.in-Due.is
 
 pub returns-in_default : goal.returns-in_default
 returns-in_default c =
-    let call = c in
-    let inv = call.loop-added.invariant in
-    none_added inv.0 call.add_next.ensures c.in_default.is
+    let inv = c.loop-added.invariant in
+    none_added inv.0 c.add_next.ensures c.in_default.is
 
 pub returns-in_default-next_record : goal.returns-in_default-next_record
 returns-in_default-next_record c =
-    let search_end = c in
-    let inv = search_end.loop-added.invariant in
-    limit_finished inv.0 search_end.loop-added-test.false search_end.next_record.ensures c.in_default-next_record.is
+    let inv = c.loop-added.invariant in
+    limit_finished inv.0 c.loop-added-test.false c.next_record.ensures c.in_default-next_record.is
 
 pub returns : goal.returns
 returns c =
-    let search_end = c in
-    let inv = search_end.loop-added.invariant in
-    limit_reached inv.0 search_end.loop-added-test.false search_end.next_record.ensures _ c.in-Due-next_record.is
+    let inv = c.loop-added.invariant in
+    limit_reached inv.0 c.loop-added-test.false c.next_record.ensures _ c.in-Due-next_record.is
 
 pub begin-requires : goal.begin-requires
 begin-requires c =
@@ -56,9 +51,8 @@ add_next-requires c =
 
 pub overflow_add-added : goal.overflow_add-added
 overflow_add-added c =
-    let call = c in
-    let inv = call.loop-added.invariant in
-    omega (arith, inv.0.room, inv.0.journal_long, call.well_formed.1.1.1.1.0.0)
+    let inv = c.loop-added.invariant in
+    omega (arith, inv.0.room, inv.0.journal_long, c.well_formed.1.1.1.1.0.0)
 
 pub loop-added-smaller : goal.loop-added-smaller
 loop-added-smaller c =

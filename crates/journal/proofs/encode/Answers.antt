@@ -17,7 +17,7 @@ pub put_number-requires-2 : goal.put_number-requires-2
 put_number-requires-2 c = omega (arith, simp length-set at c.put_number.auto.tail)
 
 pub put_number-requires-3 : goal.put_number-requires-3
-put_number-requires-3 c = let d = c in omega (arith, d.put_number-2.auto.tail, simp length-set at d.put_number.auto.tail)
+put_number-requires-3 c = omega (arith, c.put_number-2.auto.tail, simp length-set at c.put_number.auto.tail)
 
 pub returns : goal.returns
-returns c = let d = c in let e = d in let f = e in record_written _ f.args.r f.requires f.rule_of.ensures e.first_premise.ensures d.second_premise.ensures f.put_number.ensures e.put_number-2.ensures d.put_number-3.ensures
+returns c = record_written _ c.args.r c.requires c.rule_of.ensures c.first_premise.ensures c.second_premise.ensures c.put_number.ensures c.put_number-2.ensures c.put_number-3.ensures

@@ -15,8 +15,7 @@ is_well_formed-requires c = record { inside = omega arith; ended = c.line_end-en
 
 pub returns-then-not-is_well_formed : goal.returns-then-not-is_well_formed
 returns-then-not-is_well_formed c =
-    let s = c in
-    sym (s.loop-start.invariant.1 ∙ code2_stop c.args.file.now s.loop-start.start (omega arith) (sym c.is_well_formed.ensures ∙ c.if-not-is_well_formed.true))
+    sym (c.loop-start.invariant.1 ∙ code2_stop c.args.file.now c.loop-start.start (omega arith) (sym c.is_well_formed.ensures ∙ c.if-not-is_well_formed.true))
 
 pub overflow_add-start : goal.overflow_add-start
 overflow_add-start c = omega (arith, line_ended c.args.file.now c.loop-start.start c.line_end-end.result (omega arith) c.line_end-end.ensures (sym c.is_well_formed.ensures ∙ c.if-not-is_well_formed.false))
@@ -26,10 +25,8 @@ loop-start-smaller c = omega (arith, line_ended c.args.file.now c.loop-start.sta
 
 pub loop-start-preserved : goal.loop-start-preserved
 loop-start-preserved c =
-    let s = c in
-    let at = c in
-    let ended = line_ended at.args.file.now s.loop-start.start c.line_end-end.result (omega arith) c.line_end-end.ensures (sym c.is_well_formed.ensures ∙ c.if-not-is_well_formed.false) in
-    (omega arith, s.loop-start.invariant.1 ∙ code2_turn at.args.file.now s.loop-start.start (omega arith) c.line_end-end.result c.line_end-end.ensures ended (sym c.is_well_formed.ensures ∙ c.if-not-is_well_formed.false))
+    let ended = line_ended c.args.file.now c.loop-start.start c.line_end-end.result (omega arith) c.line_end-end.ensures (sym c.is_well_formed.ensures ∙ c.if-not-is_well_formed.false) in
+    (omega arith, c.loop-start.invariant.1 ∙ code2_turn c.args.file.now c.loop-start.start (omega arith) c.line_end-end.result c.line_end-end.ensures ended (sym c.is_well_formed.ensures ∙ c.if-not-is_well_formed.false))
 
 pub returns : goal.returns
 returns c = sym (c.loop-start.invariant.1 ∙ code2_over c.args.file.now c.loop-start.start (omega arith))

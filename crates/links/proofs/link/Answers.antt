@@ -4,6 +4,4 @@ use Rattle.links.proofs.link.Goals as goal
 
 pub returns : goal.returns
 returns c =
-    let third = c in
-    let second = third in
-    all_linked _ _ _ second.chain.ensures second.chain-2.ensures third.chain-3.ensures
+    all_linked _ _ _ c.chain.ensures c.chain-2.ensures c.chain-3.ensures

@@ -7,7 +7,7 @@ use Rattle.listing.proofs.Marks.{line_is_form, line_row, line_inside, line_furth
 use Rattle.listing.proofs.fill_hypotheses.Goals as goal
 
 pub loop-r-init : goal.loop-r-init
-loop-r-init c = let s = c in marks_begin s.args.file.now s.args.table.now s.requires.1
+loop-r-init c = marks_begin c.args.file.now c.args.table.now c.requires.1
 
 pub form_number-number-requires : goal.form_number-number-requires
 form_number-number-requires c =

@@ -7,7 +7,7 @@ use Rattle.listing.proofs.Marks.{line_is_form, line_row, line_inside, line_furth
 use Rattle.listing.proofs.fill_queries.Goals as goal
 
 pub loop-r-init : goal.loop-r-init
-loop-r-init c = let s = c in asked_begin s.args.file.now s.args.queries.now
+loop-r-init c = asked_begin c.args.file.now c.args.queries.now
 
 pub form_number-number-requires : goal.form_number-number-requires
 form_number-number-requires c =

@@ -12,17 +12,12 @@ bounds-keys-i c = omega (arith, c.requires)
 
 pub returns-then-keys-i : goal.returns-then-keys-i
 returns-then-keys-i c =
-    let s = c in
-    let at = c in
-    sym (search_here s.args.keys.now s.args.n s.args.key s.requires at.loop-i.i c.loop-i-test.true c.if-keys-i.true) ∙ at.loop-i.invariant.1
+    sym (search_here c.args.keys.now c.args.n c.args.key c.requires c.loop-i.i c.loop-i-test.true c.if-keys-i.true) ∙ c.loop-i.invariant.1
 
 pub loop-i-preserved : goal.loop-i-preserved
 loop-i-preserved c =
-    let s = c in
-    let at = c in
-    (omega arith, sym (search_on s.args.keys.now s.args.n s.args.key s.requires at.loop-i.i c.loop-i-test.true c.if-keys-i.false) ∙ at.loop-i.invariant.1)
+    (omega arith, sym (search_on c.args.keys.now c.args.n c.args.key c.requires c.loop-i.i c.loop-i-test.true c.if-keys-i.false) ∙ c.loop-i.invariant.1)
 
 pub returns : goal.returns
 returns c =
-    let s = c in
-    sym (search_over s.args.keys.now s.args.n s.args.key c.loop-i.i c.loop-i-test.false) ∙ c.loop-i.invariant.1
+    sym (search_over c.args.keys.now c.args.n c.args.key c.loop-i.i c.loop-i-test.false) ∙ c.loop-i.invariant.1

@@ -15,28 +15,25 @@ weaker_count-all-requires c = c.requires.sized
 
 pub loop-m-init : goal.loop-m-init
 loop-m-init c =
-    let s = c in
-    turning_begins s.args.p s.args.twin s.args.base s.args.cand.now s.args.keys.now s.args.owners.now s.args.count c.weaker_count-all.result
+    turning_begins c.args.p c.args.twin c.args.base c.args.cand.now c.args.keys.now c.args.owners.now c.args.count c.weaker_count-all.result
 
 pub weaker-requires : goal.weaker-requires
 weaker-requires c = c.requires.sized
 
 pub puts-puts-requires : goal.puts-puts-requires
-puts-puts-requires c = let s = c in rw c.weaker.ensures (weaker_sized s.args.p s.requires.sized _)
+puts-puts-requires c = rw c.weaker.ensures (weaker_sized c.args.p c.requires.sized _)
 
 pub overflow_mul-key : goal.overflow_mul-key
 overflow_mul-key c = omega (arith, c.requires.twin_few)
 
 pub overflow_add-key : goal.overflow_add-key
 overflow_add-key c =
-    let few_puts : c.puts-puts.result < 16 = let s = c in
-    puts_below s.args.p s.requires.sized _ _ (c.puts-puts.ensures ∙ ap (λ (q : Prefix). puts_of (used q)) c.weaker.ensures) in
+    let few_puts : c.puts-puts.result < 16 = puts_below c.args.p c.requires.sized _ _ (c.puts-puts.ensures ∙ ap (λ (q : Prefix). puts_of (used q)) c.weaker.ensures) in
     omega (arith, c.requires.twin_few, few_puts)
 
 pub overflow_cast-key : goal.overflow_cast-key
 overflow_cast-key c =
-    let few_puts : c.puts-puts.result < 16 = let s = c in
-    puts_below s.args.p s.requires.sized _ _ (c.puts-puts.ensures ∙ ap (λ (q : Prefix). puts_of (used q)) c.weaker.ensures) in
+    let few_puts : c.puts-puts.result < 16 = puts_below c.args.p c.requires.sized _ _ (c.puts-puts.ensures ∙ ap (λ (q : Prefix). puts_of (used q)) c.weaker.ensures) in
     omega (arith, c.requires.twin_few, few_puts)
 
 pub find-at-requires : goal.find-at-requires
@@ -47,25 +44,20 @@ overflow_mul-form c = omega (arith, c.requires.base_few)
 
 pub overflow_add-form : goal.overflow_add-form
 overflow_add-form c =
-    let s = c in
-    omega (arith, s.requires.base_few, s.requires.few_weaker, c.weaker_count-all.ensures)
+    omega (arith, c.requires.base_few, c.requires.few_weaker, c.weaker_count-all.ensures)
 
 pub overflow_cast-cand : goal.overflow_cast-cand
 overflow_cast-cand c =
-    let found_few : c.find-at.result < 4112 = let s = c in
-    let at = c in
-    let b = c in
-    let keys = at.loop-m.keys in
-    let n = at.loop-m.n in
-    let room = key_room _ _ _ _ _ _ _ _ _ _ _ _ _ s.requires b.weaker_count-all.ensures at.loop-m.invariant c.loop-m-test.true in
-    let few = listed_few _ _ _ _ _ _ _ _ _ _ _ _ _ s.requires b.weaker_count-all.ensures at.loop-m.invariant c.loop-m-test.true in
-    omega (arith, c.find-at.ensures, place_most keys n (s.args.twin * 16 + c.puts-puts.result) (take n keys), length-take-le n keys (omega (arith, room))) in
+    let found_few : c.find-at.result < 4112 = let keys = c.loop-m.keys in
+    let n = c.loop-m.n in
+    let room = key_room _ _ _ _ _ _ _ _ _ _ _ _ _ c.requires c.weaker_count-all.ensures c.loop-m.invariant c.loop-m-test.true in
+    let few = listed_few _ _ _ _ _ _ _ _ _ _ _ _ _ c.requires c.weaker_count-all.ensures c.loop-m.invariant c.loop-m-test.true in
+    omega (arith, c.find-at.ensures, place_most keys n (c.args.twin * 16 + c.puts-puts.result) (take n keys), length-take-le n keys (omega (arith, room))) in
     omega (arith, found_few)
 
 pub offset_bounds-cand-form : goal.offset_bounds-cand-form
 offset_bounds-cand-form c =
-    let s = c in
-    omega (arith, s.requires.base_few, s.requires.few_weaker, c.weaker_count-all.ensures)
+    omega (arith, c.requires.base_few, c.requires.few_weaker, c.weaker_count-all.ensures)
 
 pub bounds-cand-form : goal.bounds-cand-form
 bounds-cand-form c = form_room _ _ _ _ _ _ _ _ _ _ _ _ _ c.requires c.weaker_count-all.ensures c.loop-m.invariant c.loop-m-test.true
@@ -78,8 +70,7 @@ bounds-keys-n c = key_room _ _ _ _ _ _ _ _ _ _ _ _ _ c.requires c.weaker_count-a
 
 pub overflow_cast-owners : goal.overflow_cast-owners
 overflow_cast-owners c =
-    let s = c in
-    omega (arith, s.requires.base_few, s.requires.few_weaker, c.weaker_count-all.ensures)
+    omega (arith, c.requires.base_few, c.requires.few_weaker, c.weaker_count-all.ensures)
 
 pub offset_bounds-owners-n : goal.offset_bounds-owners-n
 offset_bounds-owners-n c = omega (arith, listed_few _ _ _ _ _ _ _ _ _ _ _ _ _ c.requires c.weaker_count-all.ensures c.loop-m.invariant c.loop-m-test.true)
@@ -98,14 +89,12 @@ loop-m-smaller c = omega arith
 
 pub loop-m-preserved : goal.loop-m-preserved
 loop-m-preserved c =
-    let at = c in
-    let puts_are = at.puts-puts.ensures ∙ ap (λ (q : Prefix). puts_of (used q)) at.weaker.ensures in
+    let puts_are = c.puts-puts.ensures ∙ ap (λ (q : Prefix). puts_of (used q)) c.weaker.ensures in
     turning_on _ _ _ _ _ _ _ _ _ _ _ _ _ c.requires c.weaker_count-all.ensures c.loop-m.invariant c.loop-m-test.true
-    at.puts-puts.result _ c.find-at.result c.longer-n.result puts_are refl c.find-at.ensures c.longer-n.ensures
+    c.puts-puts.result _ c.find-at.result c.longer-n.result puts_are refl c.find-at.ensures c.longer-n.ensures
 
 pub returns : goal.returns
 returns c =
-    let s = c in
     let so = c.loop-m.invariant in
-    forms_over s.args.p s.args.twin s.args.base _ _ _ s.args.count c.loop-m.m _ _ _ c.loop-m.n so.forms
+    forms_over c.args.p c.args.twin c.args.base _ _ _ c.args.count c.loop-m.m _ _ _ c.loop-m.n so.forms
     (omega (arith, c.weaker_count-all.ensures, c.loop-m-test.false)) (omega (arith, c.weaker_count-all.ensures, so.so_far))

@@ -7,41 +7,31 @@ use Rattle.listing.proofs.Nodewise.{nodes_begin, node_ready, nodes_on, nodes_ove
 use Rattle.listing.proofs.list_nodes.Goals as goal
 
 pub loop-i-init : goal.loop-i-init
-loop-i-init c = let s = c in nodes_begin s.args.file.now s.args.cand.now s.args.keys.now s.args.owners.now
+loop-i-init c = nodes_begin c.args.file.now c.args.cand.now c.args.keys.now c.args.owners.now
 
 pub list_node-n-requires : goal.list_node-n-requires
 list_node-n-requires c =
-    let s = c in
-    let at = c in
-    node_ready _ _ _ _ _ _ _ _ _ _ s.requires.0 s.requires.1.1 at.loop-i.invariant (subst (λ (k : ℕ). at.loop-i.i < k) s.requires.1.0 c.loop-i-test.true)
+    node_ready _ _ _ _ _ _ _ _ _ _ c.requires.0 c.requires.1.1 c.loop-i.invariant (subst (λ (k : ℕ). c.loop-i.i < k) c.requires.1.0 c.loop-i-test.true)
 
 pub cell_at-place-requires : goal.cell_at-place-requires
 cell_at-place-requires c =
-    let s = c in
-    let at = c in
-    let below = subst (λ (k : ℕ). at.loop-i.i < k) s.requires.1.0 c.loop-i-test.true in record { inside = (omega arith, omega (arith, count_few _ _ s.requires.0)); whole = table_long _ _ s.requires.0 }
+    let below = subst (λ (k : ℕ). c.loop-i.i < k) c.requires.1.0 c.loop-i-test.true in record { inside = (omega arith, omega (arith, count_few _ _ c.requires.0)); whole = table_long _ _ c.requires.0 }
 
 pub returns-then-n-gt-MOST : goal.returns-then-n-gt-MOST
 returns-then-n-gt-MOST c =
-    let s = c in
-    let at = c in
-    nodes_over _ _ _ _ _ _ _ _ _ _ s.requires.0 s.requires.1.1 at.loop-i.invariant (subst (λ (k : ℕ). at.loop-i.i < k) s.requires.1.0 c.loop-i-test.true) _ _ _ _ c.list_node-n.ensures c.if-n-gt-MOST.true _ c.cell_at-place.ensures _ _ _
+    nodes_over _ _ _ _ _ _ _ _ _ _ c.requires.0 c.requires.1.1 c.loop-i.invariant (subst (λ (k : ℕ). c.loop-i.i < k) c.requires.1.0 c.loop-i-test.true) _ _ _ _ c.list_node-n.ensures c.if-n-gt-MOST.true _ c.cell_at-place.ensures _ _ _
 
 pub overflow_add-i : goal.overflow_add-i
 overflow_add-i c =
-    let s = c in
-    omega (arith, count_few _ _ s.requires.0, (subst (λ (k : ℕ). c.loop-i.i < k) s.requires.1.0 c.loop-i-test.true))
+    omega (arith, count_few _ _ c.requires.0, (subst (λ (k : ℕ). c.loop-i.i < k) c.requires.1.0 c.loop-i-test.true))
 
 pub loop-i-smaller : goal.loop-i-smaller
 loop-i-smaller c = omega arith
 
 pub loop-i-preserved : goal.loop-i-preserved
 loop-i-preserved c =
-    let s = c in
-    let at = c in
-    let b = c in
-    nodes_on _ _ _ _ _ _ _ _ _ _ s.requires.0 s.requires.1.1 b.loop-i.invariant (subst (λ (k : ℕ). b.loop-i.i < k) s.requires.1.0 c.loop-i-test.true) _ _ _ _ at.list_node-n.ensures c.if-n-gt-MOST.false
-    at.list_node-n.auto.cand at.list_node-n.auto.keys at.list_node-n.auto.owners
+    nodes_on _ _ _ _ _ _ _ _ _ _ c.requires.0 c.requires.1.1 c.loop-i.invariant (subst (λ (k : ℕ). c.loop-i.i < k) c.requires.1.0 c.loop-i-test.true) _ _ _ _ c.list_node-n.ensures c.if-n-gt-MOST.false
+    c.list_node-n.auto.cand c.list_node-n.auto.keys c.list_node-n.auto.owners
 
 pub returns : goal.returns
 returns c =

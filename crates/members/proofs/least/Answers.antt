@@ -8,8 +8,7 @@ loop-at-init c = (omega arith, search_begins _)
 
 pub returns-then-word-ne0 : goal.returns-then-word-ne0
 returns-then-word-ne0 c =
-    let turn = c in
-    search_finds _ _ turn.loop-at.invariant.1 turn.loop-at-test.true c.if-word-ne0.true (c.shared_slice_known-1.given turn.loop-at.at).fits
+    search_finds _ _ c.loop-at.invariant.1 c.loop-at-test.true c.if-word-ne0.true (c.shared_slice_known-1.given c.loop-at.at).fits
 
 pub loop-at-preserved : goal.loop-at-preserved
 loop-at-preserved c = (omega arith, search_goes_on _ _ c.loop-at.invariant.1 c.if-word-ne0.false)

@@ -14,5 +14,4 @@ too_many-requires c = (sym c.first_malformed-lines.ensures ∙ c.in_default.is)
 
 pub returns : goal.returns
 returns c =
-    let s = c in
-    c.too_many.ensures ∙ check_nodes s.args.file.now c.if-file-gt-MOST_BYTES.false (sym c.first_malformed-lines.ensures ∙ c.in_default.is)
+    c.too_many.ensures ∙ check_nodes c.args.file.now c.if-file-gt-MOST_BYTES.false (sym c.first_malformed-lines.ensures ∙ c.in_default.is)

@@ -14,9 +14,7 @@ cell_at-requires-then-cell_at-gt-MOST_DEPTH c = record { inside = (omega arith, 
 
 pub returns-then-cell_at-gt-MOST_DEPTH : goal.returns-then-cell_at-gt-MOST_DEPTH
 returns-then-cell_at-gt-MOST_DEPTH c =
-    let s = c in
-    let at = c in
-    deep_stop s.args.nodes.now s.args.count at.loop-i.i at.loop-i.invariant.1 (omega arith) (omega (arith, c.cell_at.ensures)) c.cell_at-then-cell_at-gt-MOST_DEPTH.result c.cell_at-then-cell_at-gt-MOST_DEPTH.ensures
+    deep_stop c.args.nodes.now c.args.count c.loop-i.i c.loop-i.invariant.1 (omega arith) (omega (arith, c.cell_at.ensures)) c.cell_at-then-cell_at-gt-MOST_DEPTH.result c.cell_at-then-cell_at-gt-MOST_DEPTH.ensures
 
 pub overflow_add-i : goal.overflow_add-i
 overflow_add-i c = omega arith
@@ -26,9 +24,7 @@ loop-i-smaller c = omega arith
 
 pub loop-i-preserved : goal.loop-i-preserved
 loop-i-preserved c =
-    let s = c in
-    let at = c in
-    (omega arith, deep_turn s.args.nodes.now s.args.count at.loop-i.i at.loop-i.invariant.1 (omega arith) (omega (arith, c.cell_at.ensures)))
+    (omega arith, deep_turn c.args.nodes.now c.args.count c.loop-i.i c.loop-i.invariant.1 (omega arith) (omega (arith, c.cell_at.ensures)))
 
 pub returns : goal.returns
 returns c = deep_over c.args.nodes.now c.args.count c.loop-i.i c.loop-i.invariant.1 (omega arith)

@@ -4,15 +4,12 @@ use Rattle.policy.proofs.fill.Goals as goal
 
 pub fill_ends-requires : goal.fill_ends-requires
 fill_ends-requires c =
-    let s = c in
-    begun_holding _ _ _ _ c.fill_spots-count.ensures s.requires.few s.requires.whole
+    begun_holding _ _ _ _ c.fill_spots-count.ensures c.requires.few c.requires.whole
 
 pub fill_above-requires : goal.fill_above-requires
 fill_above-requires c =
-    let s = c in
-    ended_holding _ _ _ _ c.fill_spots-count.ensures s.requires.few s.requires.whole _ c.fill_ends.ensures
+    ended_holding _ _ _ _ c.fill_spots-count.ensures c.requires.few c.requires.whole _ c.fill_ends.ensures
 
 pub returns : goal.returns
 returns c =
-    let s = c in
-    all_filled _ _ _ _ c.fill_spots-count.ensures s.requires.few s.requires.whole _ c.fill_ends.ensures _ c.fill_above.ensures
+    all_filled _ _ _ _ c.fill_spots-count.ensures c.requires.few c.requires.whole _ c.fill_ends.ensures _ c.fill_above.ensures

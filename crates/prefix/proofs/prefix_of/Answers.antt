@@ -11,8 +11,7 @@ cell_at-above-requires c = record { inside = (omega arith, c.requires.row); whol
 
 pub loop-k-init : goal.loop-k-init
 loop-k-init c =
-    let start = c in
-    (climb_begins _ _ start.requires c.cell_at-count.ensures c.cell_at-above.ensures, c.cell_at-count.ensures)
+    (climb_begins _ _ c.requires c.cell_at-count.ensures c.cell_at-above.ensures, c.cell_at-count.ensures)
 
 pub cell_at-said-requires : goal.cell_at-said-requires
 cell_at-said-requires c = record { inside = (omega arith, climb_row _ _ _ _ _ _ c.loop-k.invariant.0 c.loop-k-test.true); whole = c.requires.long }
@@ -27,12 +26,11 @@ pub cell_at-above-requires-in-loop-k : goal.cell_at-above-requires-in-loop-k
 cell_at-above-requires-in-loop-k c = record { inside = (omega arith, omega (arith, climb_row _ _ _ _ _ _ c.loop-k.invariant.0 c.loop-k-test.true, c.requires.row)); whole = c.requires.long }
 
 pub loop-k-preserved : goal.loop-k-preserved
-loop-k-preserved c =
-    let at = c in (
-      climb_turn _ _ _ _ _ _ at.loop-k.invariant.0 c.loop-k-test.true
-          (omega (arith, at.requires.few, at.loop-k.invariant.1)) c.cell_at-said.ensures c.cell_at-above-in-loop-k.ensures,
-      at.loop-k.invariant.1,
-    )
+loop-k-preserved c = (
+  climb_turn _ _ _ _ _ _ c.loop-k.invariant.0 c.loop-k-test.true
+      (omega (arith, c.requires.few, c.loop-k.invariant.1)) c.cell_at-said.ensures c.cell_at-above-in-loop-k.ensures,
+  c.loop-k.invariant.1,
+)
 
 pub returns : goal.returns
 returns c = same_prefix _ _ _ (climb_over _ _ _ _ _ _ c.loop-k.invariant.0 c.loop-k-test.false) c.loop-k.invariant.1

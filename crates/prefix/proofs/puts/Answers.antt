@@ -13,37 +13,31 @@ loop-k-init c =
 
 pub overflow_add-sum : goal.overflow_add-sum
 overflow_add-sum c =
-    let start = c in
-    let p = start.args.p in
-    let at = c in
+    let p = c.args.p in
     omega (
       arith,
-      at.loop-k.invariant.1.0,
-      at.loop-k.invariant.1.1,
-      puts_few p.places p.count at.loop-k.k start.requires.few,
-      weight_few p.places p.count at.loop-k.k start.requires.few,
+      c.loop-k.invariant.1.0,
+      c.loop-k.invariant.1.1,
+      puts_few p.places p.count c.loop-k.k c.requires.few,
+      weight_few p.places p.count c.loop-k.k c.requires.few,
       weight_bound _ _ _ c.put_weight-sum.ensures,
     )
 
 pub overflow_mul-weight : goal.overflow_mul-weight
 overflow_mul-weight c =
-    let start = c in
-    let p = start.args.p in
-    let at = c in
-    omega (arith, at.loop-k.invariant.1.1, weight_few p.places p.count at.loop-k.k start.requires.few)
+    let p = c.args.p in
+    omega (arith, c.loop-k.invariant.1.1, weight_few p.places p.count c.loop-k.k c.requires.few)
 
 pub loop-k-preserved : goal.loop-k-preserved
 loop-k-preserved c =
-    let start = c in
-    let p = start.args.p in
-    let at = c in
-    let fits : p.count ≤ length p.places = omega (arith, start.requires.few, start.requires.full) in (
+    let p = c.args.p in
+    let fits : p.count ≤ length p.places = omega (arith, c.requires.few, c.requires.full) in (
       omega arith,
       (
-        ap₂ ◌+◌ at.loop-k.invariant.1.0 (c.put_weight-sum.ensures ∙ ap (put_weight _) at.loop-k.invariant.1.1)
-            ∙ sym (puts_turn p.places p.count at.loop-k.k blank fits at.loop-k.invariant.0 c.loop-k-test.true),
-        ap (λ (w : ℕ). w * 2) at.loop-k.invariant.1.1
-            ∙ sym (weight_turn p.places p.count at.loop-k.k blank fits at.loop-k.invariant.0 c.loop-k-test.true),
+        ap₂ ◌+◌ c.loop-k.invariant.1.0 (c.put_weight-sum.ensures ∙ ap (put_weight _) c.loop-k.invariant.1.1)
+            ∙ sym (puts_turn p.places p.count c.loop-k.k blank fits c.loop-k.invariant.0 c.loop-k-test.true),
+        ap (λ (w : ℕ). w * 2) c.loop-k.invariant.1.1
+            ∙ sym (weight_turn p.places p.count c.loop-k.k blank fits c.loop-k.invariant.0 c.loop-k-test.true),
       ),
     )
 

@@ -8,14 +8,12 @@ use Rattle.prefix.proofs.weaker.Goals as goal
 
 pub loop-k-preserved : goal.loop-k-preserved
 loop-k-preserved c =
-    let start = c in
-    let fits : start.args.p.count ≤ length start.args.p.places = omega (arith, start.requires.few, start.requires.full) in
+    let fits : c.args.p.count ≤ length c.args.p.places = omega (arith, c.requires.few, c.requires.full) in
     rw (c.lower-low.ensures, c.bits_left-left.ensures)
     (lower_turn _ _ _ _ _ _ fits c.loop-k.invariant blank c.loop-k-test.true)
 
 pub returns : goal.returns
 unfolding weaker_at
 returns c =
-    let start = c in
-    let fits : start.args.p.count ≤ length start.args.p.places = omega (arith, start.requires.few, start.requires.full) in
+    let fits : c.args.p.count ≤ length c.args.p.places = omega (arith, c.requires.few, c.requires.full) in
     same_places_lem _ (lower_over _ _ _ _ _ _ fits c.loop-k.invariant c.loop-k-test.false)

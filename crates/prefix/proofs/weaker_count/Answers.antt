@@ -15,12 +15,10 @@ branched-n-requires c =
 
 pub loop-k-preserved : goal.loop-k-preserved
 loop-k-preserved c =
-    let start = c in
-    let p = start.args.p in
-    let at = c in (
+    let p = c.args.p in (
       omega arith,
-      c.branched-n.ensures ∙ ap (branches _) at.loop-k.invariant.1
-          ∙ sym (weaker_count_turn p.places p.count at.loop-k.k blank (omega (arith, start.requires.few, start.requires.full)) at.loop-k.invariant.0 c.loop-k-test.true),
+      c.branched-n.ensures ∙ ap (branches _) c.loop-k.invariant.1
+          ∙ sym (weaker_count_turn p.places p.count c.loop-k.k blank (omega (arith, c.requires.few, c.requires.full)) c.loop-k.invariant.0 c.loop-k-test.true),
     )
 
 pub returns : goal.returns

@@ -1,8 +1,6 @@
 -- `printing::print_answers` meets its contract. The invariant: what is put so far and the text of the rest are the whole text. The
 -- measure is what is left of the file.
 use native.Mathlib.Omega.{arith}
-use Prim.Native.Nat.{◌<◌}
-use lib.ListN.{length}
 use Rattle.printing.proofs.Going.{begin, over_lines, over_answers, turn_places, turn_room, turn}
 use Rattle.printing.proofs.print_answers.Goals as goal
 
@@ -20,29 +18,22 @@ line_end-end-requires c = omega arith
 
 pub put_query-next-requires : goal.put_query-next-requires
 put_query-next-requires c =
-    let places : (c.loop-start.start < c.line_end-end.result)
-    × (c.line_end-end.result < length c.args.file.now) = let l = c.loop-start in
-    turn_places c.args.file.now c.args.asked c.args.answers.now c.args.out.now l.out l.at l.count l.start l.invariant c.requires.room
-    (omega arith) (omega arith) c.line_end-end.result c.line_end-end.ensures in
     let l = c.loop-start in
+    let places = turn_places c.args.file.now c.args.asked c.args.answers.now c.args.out.now l.out l.at l.count l.start l.invariant c.requires.room (omega arith) (omega arith) c.line_end-end.result c.line_end-end.ensures in
     let room =
     turn_room c.args.file.now c.args.asked c.args.answers.now c.args.out.now l.out l.at l.count l.start l.invariant c.requires.room
-    (omega arith) (omega arith) c.line_end-end.result c.line_end-end.ensures in record { inside = ((places).0, omega (arith, (places).1)); answered = omega arith; room = room }
+    (omega arith) (omega arith) c.line_end-end.result c.line_end-end.ensures in record { inside = (places.0, omega (arith, places.1)); answered = omega arith; room = room }
 
 pub overflow_add-start : goal.overflow_add-start
 overflow_add-start c =
-    let places : (c.loop-start.start < c.line_end-end.result)
-    × (c.line_end-end.result < length c.args.file.now) = let l = c.loop-start in
-    turn_places c.args.file.now c.args.asked c.args.answers.now c.args.out.now l.out l.at l.count l.start l.invariant c.requires.room
-    (omega arith) (omega arith) c.line_end-end.result c.line_end-end.ensures in
-    omega (arith, (places).1)
+    let l = c.loop-start in
+    let places = turn_places c.args.file.now c.args.asked c.args.answers.now c.args.out.now l.out l.at l.count l.start l.invariant c.requires.room (omega arith) (omega arith) c.line_end-end.result c.line_end-end.ensures in
+    omega (arith, places.1)
 
 pub loop-start-smaller : goal.loop-start-smaller
 loop-start-smaller c =
-    let places : (c.loop-start.start < c.line_end-end.result)
-    × (c.line_end-end.result < length c.args.file.now) = let l = c.loop-start in
-    turn_places c.args.file.now c.args.asked c.args.answers.now c.args.out.now l.out l.at l.count l.start l.invariant c.requires.room
-    (omega arith) (omega arith) c.line_end-end.result c.line_end-end.ensures in
+    let l = c.loop-start in
+    let places = turn_places c.args.file.now c.args.asked c.args.answers.now c.args.out.now l.out l.at l.count l.start l.invariant c.requires.room (omega arith) (omega arith) c.line_end-end.result c.line_end-end.ensures in
     omega (arith, places)
 
 pub loop-start-preserved : goal.loop-start-preserved

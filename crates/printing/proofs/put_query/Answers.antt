@@ -12,12 +12,12 @@ returns-then-file-start-ne81 c =
 pub slice_bounds-put_line-count : goal.slice_bounds-put_line-count
 slice_bounds-put_line-count c =
     let from_there : (c.args.start < c.behind_from-from.result) × (c.behind_from-from.result ≤ c.args.end) = rw c.behind_from-from.ensures (from_places _ c.args.start c.args.end c.requires.inside.0) in
-    omega (arith, (from_there).1)
+    omega (arith, from_there.1)
 
 pub slice_bounds-put_line-start : goal.slice_bounds-put_line-start
 slice_bounds-put_line-start c =
     let from_there : (c.args.start < c.behind_from-from.result) × (c.behind_from-from.result ≤ c.args.end) = rw c.behind_from-from.ensures (from_places _ c.args.start c.args.end c.requires.inside.0) in
-    omega (arith, (from_there).1)
+    omega (arith, from_there.1)
 
 pub put_line-next-requires : goal.put_line-next-requires
 put_line-next-requires c =

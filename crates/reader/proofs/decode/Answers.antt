@@ -11,7 +11,7 @@ pub returns-then-bytes-ne-MARK_LOW : goal.returns-then-bytes-ne-MARK_LOW
 returns-then-bytes-ne-MARK_LOW c = by_case to_decoded (unmarked_low _ c.if-bytes-ne-MARK_HIGH.false c.if-bytes-ne-MARK_LOW.true) refl
 
 pub returns-in_default : goal.returns-in_default
-returns-in_default c = let b = c in by_case to_decoded (read_nothing _ b.if-bytes-ne-MARK_HIGH.false b.if-bytes-ne-MARK_LOW.false b.number_at.ensures b.number_at-2.ensures b.way_of.ensures c.in_default.is) refl
+returns-in_default c = by_case to_decoded (read_nothing _ c.if-bytes-ne-MARK_HIGH.false c.if-bytes-ne-MARK_LOW.false c.number_at.ensures c.number_at-2.ensures c.way_of.ensures c.in_default.is) refl
 
 pub returns : goal.returns
-returns c = let b = c in by_case to_decoded (read_record _ b.if-bytes-ne-MARK_HIGH.false b.if-bytes-ne-MARK_LOW.false b.number_at.ensures b.number_at-2.ensures b.way_of.ensures _ c.in-By.is c.number_at-3.ensures) refl
+returns c = by_case to_decoded (read_record _ c.if-bytes-ne-MARK_HIGH.false c.if-bytes-ne-MARK_LOW.false c.number_at.ensures c.number_at-2.ensures c.way_of.ensures _ c.in-By.is c.number_at-3.ensures) refl

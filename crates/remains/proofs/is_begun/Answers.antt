@@ -4,32 +4,23 @@ use Rattle.remains.proofs.is_begun.Goals as goal
 
 pub returns-then-byte_or-ne-MARK_HIGH : goal.returns-then-byte_or-ne-MARK_HIGH
 returns-then-byte_or-ne-MARK_HIGH c =
-    let first = c in
-    let a = first.args in
-    begun_not_first a.journal.now a.used first.byte_or.result first.byte_or.ensures c.if-byte_or-ne-MARK_HIGH.true
+    let a = c.args in
+    begun_not_first a.journal.now a.used c.byte_or.result c.byte_or.ensures c.if-byte_or-ne-MARK_HIGH.true
 
 pub returns-then-byte_or-ne-MARK_LOW : goal.returns-then-byte_or-ne-MARK_LOW
 returns-then-byte_or-ne-MARK_LOW c =
-    let second = c in
-    let first = second in
-    let a = first.args in
-    begun_not_second a.journal.now a.used first.byte_or.result first.byte_or.ensures second.if-byte_or-ne-MARK_HIGH.false
-    second.byte_or-2.result second.byte_or-2.ensures c.if-byte_or-ne-MARK_LOW.true
+    let a = c.args in
+    begun_not_second a.journal.now a.used c.byte_or.result c.byte_or.ensures c.if-byte_or-ne-MARK_HIGH.false
+    c.byte_or-2.result c.byte_or-2.ensures c.if-byte_or-ne-MARK_LOW.true
 
 pub returns-then-rule-ge1 : goal.returns-then-rule-ge1
 returns-then-rule-ge1 c =
-    let third = c in
-    let second = third in
-    let first = second in
-    let a = first.args in
-    begun_below a.journal.now a.used first.byte_or.result first.byte_or.ensures second.if-byte_or-ne-MARK_HIGH.false
-    second.byte_or-2.result second.byte_or-2.ensures third.if-byte_or-ne-MARK_LOW.false third.byte_or-rule.result third.byte_or-rule.ensures c.if-rule-ge1.true
+    let a = c.args in
+    begun_below a.journal.now a.used c.byte_or.result c.byte_or.ensures c.if-byte_or-ne-MARK_HIGH.false
+    c.byte_or-2.result c.byte_or-2.ensures c.if-byte_or-ne-MARK_LOW.false c.byte_or-rule.result c.byte_or-rule.ensures c.if-rule-ge1.true
 
 pub returns-else-rule-ge1 : goal.returns-else-rule-ge1
 returns-else-rule-ge1 c =
-    let third = c in
-    let second = third in
-    let first = second in
-    let a = first.args in
-    begun_not_third a.journal.now a.used first.byte_or.result first.byte_or.ensures second.if-byte_or-ne-MARK_HIGH.false
-    second.byte_or-2.result second.byte_or-2.ensures third.if-byte_or-ne-MARK_LOW.false third.byte_or-rule.result third.byte_or-rule.ensures c.if-rule-ge1.false
+    let a = c.args in
+    begun_not_third a.journal.now a.used c.byte_or.result c.byte_or.ensures c.if-byte_or-ne-MARK_HIGH.false
+    c.byte_or-2.result c.byte_or-2.ensures c.if-byte_or-ne-MARK_LOW.false c.byte_or-rule.result c.byte_or-rule.ensures c.if-rule-ge1.false

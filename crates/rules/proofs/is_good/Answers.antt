@@ -8,9 +8,7 @@ pub returns-then-n-f : goal.returns-then-n-f
 returns-then-n-f c = not_listed _ _ _ c.args.r c.if-n-f.true
 
 pub returns-then-not-is_marked : goal.returns-then-not-is_marked
-returns-then-not-is_marked c = let b = c in
-    good_led _ _ _ b.args.r b.if-n-f.false b.is_marked.ensures (ap not c.if-not-is_marked.true) c.leads_to.ensures
+returns-then-not-is_marked c = good_led _ _ _ c.args.r c.if-n-f.false c.is_marked.ensures (ap not c.if-not-is_marked.true) c.leads_to.ensures
 
 pub returns-else-not-is_marked : goal.returns-else-not-is_marked
-returns-else-not-is_marked c = let b = c in
-    recorded_before _ _ _ b.args.r b.if-n-f.false b.is_marked.ensures (ap not c.if-not-is_marked.false)
+returns-else-not-is_marked c = recorded_before _ _ _ c.args.r c.if-n-f.false c.is_marked.ensures (ap not c.if-not-is_marked.false)

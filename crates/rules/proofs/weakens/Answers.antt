@@ -7,9 +7,8 @@ use Rattle.rules.proofs.weakens.Goals as goal
 
 pub returns-then-cell_at : goal.returns-then-cell_at
 unfolding gives_in
-returns-then-cell_at c = let b = c in
-    first_passed (eq-eqb _ _ (sym b.cell_at.ensures ∙ (c.if-cell_at.true ∙ c.cell_at-2.ensures)))
-    (contained b.cell_at-from.ensures b.cell_at-to.ensures)
+returns-then-cell_at c = first_passed (eq-eqb _ _ (sym c.cell_at.ensures ∙ (c.if-cell_at.true ∙ c.cell_at-2.ensures)))
+    (contained c.cell_at-from.ensures c.cell_at-to.ensures)
 
 pub returns-else-cell_at : goal.returns-else-cell_at
 unfolding gives_in

@@ -1,56 +1,45 @@
 -- `settling::settle` meets its contract: what the run left, what is shown of it and what was looked at before it settle the call.
-use Prim.Native.Nat.{◌≤◌}
+use Prim.Native.Nat.{ℕ, ◌≤◌}
 use native.Mathlib.Omega.{arith}
 use mathlib.Core.Path.{◌≡◌, sym, ◌∙◌}
-use lib.ListN.{length, drop}
+use mathlib.Core.List.{List}
+use lib.ListN.{length, take, drop}
 use lib.Seq.{length-take-le}
+use Rattle.settling.specs.Settled.{answer_room}
 use Rattle.settling.proofs.Telling.{room_few}
 use Rattle.settling.proofs.Settling.{zeros, share_within, share_counts, share_short, share_back, shows, settled_so}
 use Rattle.settling.proofs.settle.Goals as goal
 
+-- the text has room for at most so many answers as the row has
+room_inside : (text : List ℕ) {room : ℕ} → room ≡ answer_room text → room ≤ 1024
+room_inside text e = omega (arith, room_few text, e)
+
+-- the part of the row that was lent keeps its length
+row_long : (text answers : List ℕ) {room : ℕ} → room ≡ answer_room text → length answers ≡ length (take room (zeros 1024)) → length answers ≡ room
+row_long text answers {room} e kept = kept ∙ length-take-le room (zeros 1024) (room_inside text e)
+
 pub slice_bounds-answers-end : goal.slice_bounds-answers-end
-slice_bounds-answers-end c =
-    let room_inside : c.answer_room-room.result ≤ 1024 = omega (arith, room_few c.args.text.now, c.answer_room-room.ensures) in
-    room_inside
+slice_bounds-answers-end c = room_inside c.args.text.now c.answer_room-room.ensures
 
 pub slice_bounds-run-end : goal.slice_bounds-run-end
 slice_bounds-run-end c =
-    let room_inside : c.answer_room-room.result ≤ 1024 = omega (arith, room_few c.args.text.now, c.answer_room-room.ensures) in
-    sym (length-take-le c.answer_room-room.result (zeros 1024) (room_inside))
+    sym (length-take-le c.answer_room-room.result (zeros 1024) (room_inside c.args.text.now c.answer_room-room.ensures))
 
 pub slice_bounds-answers-end-2 : goal.slice_bounds-answers-end-2
 slice_bounds-answers-end-2 c =
-    let room_inside : c.answer_room-room.result ≤ 1024 = omega (arith, room_few c.args.text.now, c.answer_room-room.ensures) in
-    let row_long : length c.run-report.new.answers ≡ c.answer_room-room.result = c.run-report.auto.answers ∙ length-take-le c.answer_room-room.result (zeros 1024) (room_inside) in
-    let ran = c in
-    share_within ran.run-report.new.answers (drop ran.answer_room-room.result (zeros 1024)) ran.answer_room-room.result (row_long)
+    share_within c.run-report.new.answers (drop c.answer_room-room.result (zeros 1024)) c.answer_room-room.result (row_long c.args.text.now _ c.answer_room-room.ensures c.run-report.auto.answers)
 
 pub slice_bounds-show-end : goal.slice_bounds-show-end
 slice_bounds-show-end c =
-    let room_inside : c.answer_room-room.result ≤ 1024 = omega (arith, room_few c.args.text.now, c.answer_room-room.ensures) in
-    let row_long : length c.run-report.new.answers ≡ c.answer_room-room.result = c.run-report.auto.answers ∙ length-take-le c.answer_room-room.result (zeros 1024) (room_inside) in
-    let ran = c in
-    share_counts ran.run-report.new.answers (drop ran.answer_room-room.result (zeros 1024)) ran.answer_room-room.result (row_long)
+    share_counts c.run-report.new.answers (drop c.answer_room-room.result (zeros 1024)) c.answer_room-room.result (row_long c.args.text.now _ c.answer_room-room.ensures c.run-report.auto.answers)
 
 pub show-length-requires : goal.show-length-requires
 show-length-requires c =
-    let room_inside : c.answer_room-room.result ≤ 1024 = omega (arith, room_few c.args.text.now, c.answer_room-room.ensures) in
-    let row_long : length c.run-report.new.answers ≡ c.answer_room-room.result = c.run-report.auto.answers ∙ length-take-le c.answer_room-room.result (zeros 1024) (room_inside) in
-    let ran = c in
-    let room = ran in
-    let start = room in
-    shows start.args.file.now start.args.journal.now _ _ start.args.asked start.args.text.now room.answer_room-room.result
-    room.answer_room-room.ensures ran.run-report.result _ _ ran.run-report.ensures _ (share_short ran.run-report.new.answers (drop ran.answer_room-room.result (zeros 1024)) room.answer_room-room.result (row_long) (room_inside))
+    shows c.args.file.now c.args.journal.now _ _ c.args.asked c.args.text.now c.answer_room-room.result
+    c.answer_room-room.ensures c.run-report.result _ _ c.run-report.ensures _ (share_short c.run-report.new.answers (drop c.answer_room-room.result (zeros 1024)) c.answer_room-room.result (row_long c.args.text.now _ c.answer_room-room.ensures c.run-report.auto.answers) (room_inside c.args.text.now c.answer_room-room.ensures))
 
 pub returns : goal.returns
 returns c =
-    let room_inside : c.answer_room-room.result ≤ 1024 = omega (arith, room_few c.args.text.now, c.answer_room-room.ensures) in
-    let row_long : length c.run-report.new.answers ≡ c.answer_room-room.result = c.run-report.auto.answers ∙ length-take-le c.answer_room-room.result (zeros 1024) (room_inside) in
-    let told = c in
-    let ran = told in
-    let room = ran in
-    let begun = room in
-    let start = begun in
-    settled_so start.args.file.now start.args.journal.now start.args.used start.args.limit start.args.asked start.args.text.now room.answer_room-room.result
-    room.answer_room-room.ensures ran.run-report.result _ _ ran.run-report.ensures begun.is_begun-begun.result begun.is_begun-begun.ensures told.show-length.result _ _
-    (share_back _ _ _ (row_long)) told.show-length.ensures c.sum_up.result c.sum_up.ensures
+    settled_so c.args.file.now c.args.journal.now c.args.used c.args.limit c.args.asked c.args.text.now c.answer_room-room.result
+    c.answer_room-room.ensures c.run-report.result _ _ c.run-report.ensures c.is_begun-begun.result c.is_begun-begun.ensures c.show-length.result _ _
+    (share_back _ _ _ (row_long c.args.text.now _ c.answer_room-room.ensures c.run-report.auto.answers)) c.show-length.ensures c.sum_up.result c.sum_up.ensures

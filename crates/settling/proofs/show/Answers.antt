@@ -10,11 +10,9 @@ returns-then-text-lt-TEXT_BYTES c =
 
 pub print_run-requires : goal.print_run-requires
 print_run-requires c =
-    let s = c in
-    let a = s.args in record { printable = λ accepted. printable a.file.now a.code a.answers.now a.text.now s.requires c.if-text-lt-TEXT_BYTES.false accepted; room = omega arith }
+    let a = c.args in record { printable = λ accepted. printable a.file.now a.code a.answers.now a.text.now c.requires c.if-text-lt-TEXT_BYTES.false accepted; room = omega arith }
 
 pub returns : goal.returns
 returns c =
-    let printed = c in
-    let a = printed.args in
-    shown a.asked a.file.now a.code a.place a.answers.now a.text.now printed.if-text-lt-TEXT_BYTES.false _ _ printed.print_run.ensures
+    let a = c.args in
+    shown a.asked a.file.now a.code a.place a.answers.now a.text.now c.if-text-lt-TEXT_BYTES.false _ _ c.print_run.ensures

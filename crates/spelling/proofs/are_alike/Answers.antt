@@ -18,9 +18,7 @@ bounds-b-i c = omega arith
 
 pub returns-then-a-i : goal.returns-then-a-i
 returns-then-a-i c =
-    let s = c in
-    let at = c in
-    sym (at.loop-i.invariant.1 ∙ alike_stop s.args.a.now s.args.b.now at.loop-i.i (omega arith) (omega arith) c.if-a-i.true)
+    sym (c.loop-i.invariant.1 ∙ alike_stop c.args.a.now c.args.b.now c.loop-i.i (omega arith) (omega arith) c.if-a-i.true)
 
 pub overflow_add-i : goal.overflow_add-i
 overflow_add-i c = omega arith
@@ -30,11 +28,8 @@ loop-i-smaller c = omega arith
 
 pub loop-i-preserved : goal.loop-i-preserved
 loop-i-preserved c =
-    let s = c in
-    let at = c in
-    (omega arith, at.loop-i.invariant.1 ∙ alike_turn s.args.a.now s.args.b.now at.loop-i.i (omega arith) (omega arith) c.if-a-i.false)
+    (omega arith, c.loop-i.invariant.1 ∙ alike_turn c.args.a.now c.args.b.now c.loop-i.i (omega arith) (omega arith) c.if-a-i.false)
 
 pub returns : goal.returns
 returns c =
-    let s = c in
-    sym (c.loop-i.invariant.1 ∙ alike_over s.args.a.now s.args.b.now c.loop-i.i (omega arith) (omega arith))
+    sym (c.loop-i.invariant.1 ∙ alike_over c.args.a.now c.args.b.now c.loop-i.i (omega arith) (omega arith))

@@ -18,60 +18,45 @@ gone_on-next-requires c = omega arith
 
 pub returns-in_default : goal.returns-in_default
 returns-in_default c =
-    let s = c in
     sym
-    (node_stuck c.args.text.now s.loop-needed.at s.loop-needed.needed s.loop-needed.invariant.0 (omega arith) s.loop-needed.invariant.1.1
+    (node_stuck c.args.text.now c.loop-needed.at c.loop-needed.needed c.loop-needed.invariant.0 (omega arith) c.loop-needed.invariant.1.1
     (ap (gone_on _) (sym c.node_at-node.ensures) ∙ sym c.gone_on-next.ensures ∙ c.in_default.is))
 
 pub returns-then-end-text : goal.returns-then-end-text
 returns-then-end-text c =
-    let s = c in
-    let at = c in
-    let t = node_taken at.args.text.now s.loop-needed.at s.loop-needed.needed s.loop-needed.invariant.0 (omega arith) c.in-Behind.behind
+    let t = node_taken c.args.text.now c.loop-needed.at c.loop-needed.needed c.loop-needed.invariant.0 (omega arith) c.in-Behind.behind
     (ap (gone_on _) (sym c.node_at-node.ensures) ∙ sym c.gone_on-next.ensures ∙ c.in-Behind.is) in
-    sym (s.loop-needed.invariant.1.1 ∙ taken_end at.args.text.now s.loop-needed.at s.loop-needed.needed c.in-Behind.behind.at c.in-Behind.behind.needed t c.if-end-text.true)
+    sym (c.loop-needed.invariant.1.1 ∙ taken_end c.args.text.now c.loop-needed.at c.loop-needed.needed c.in-Behind.behind.at c.in-Behind.behind.needed t c.if-end-text.true)
 
 pub bounds-text-end : goal.bounds-text-end
 bounds-text-end c =
-    let s = c in
-    let at = c in
-    let t = node_taken c.args.text.now s.loop-needed.at s.loop-needed.needed s.loop-needed.invariant.0 (omega arith) at.in-Behind.behind
-    (ap (gone_on _) (sym c.node_at-node.ensures) ∙ sym c.gone_on-next.ensures ∙ at.in-Behind.is) in
+    let t = node_taken c.args.text.now c.loop-needed.at c.loop-needed.needed c.loop-needed.invariant.0 (omega arith) c.in-Behind.behind
+    (ap (gone_on _) (sym c.node_at-node.ensures) ∙ sym c.gone_on-next.ensures ∙ c.in-Behind.is) in
     omega arith
 
 pub returns-then-text-end-ne32 : goal.returns-then-text-end-ne32
 returns-then-text-end-ne32 c =
-    let s = c in
-    let at = c in
-    let b = c in
-    let t = node_taken at.args.text.now s.loop-needed.at s.loop-needed.needed s.loop-needed.invariant.0 (omega arith) b.in-Behind.behind
-    (ap (gone_on _) (sym c.node_at-node.ensures) ∙ sym c.gone_on-next.ensures ∙ b.in-Behind.is) in
-    sym (taken_feed at.args.text.now s.loop-needed.at s.loop-needed.needed b.in-Behind.behind.at b.in-Behind.behind.needed t (omega arith) c.if-text-end-ne32.true)
+    let t = node_taken c.args.text.now c.loop-needed.at c.loop-needed.needed c.loop-needed.invariant.0 (omega arith) c.in-Behind.behind
+    (ap (gone_on _) (sym c.node_at-node.ensures) ∙ sym c.gone_on-next.ensures ∙ c.in-Behind.is) in
+    sym (taken_feed c.args.text.now c.loop-needed.at c.loop-needed.needed c.in-Behind.behind.at c.in-Behind.behind.needed t (omega arith) c.if-text-end-ne32.true)
 
 pub overflow_add-at : goal.overflow_add-at
 overflow_add-at c =
-    let s = c in
-    let at = c in
-    let t = node_taken c.args.text.now s.loop-needed.at s.loop-needed.needed s.loop-needed.invariant.0 (omega arith) at.in-Behind.behind
-    (ap (gone_on _) (sym c.node_at-node.ensures) ∙ sym c.gone_on-next.ensures ∙ at.in-Behind.is) in
+    let t = node_taken c.args.text.now c.loop-needed.at c.loop-needed.needed c.loop-needed.invariant.0 (omega arith) c.in-Behind.behind
+    (ap (gone_on _) (sym c.node_at-node.ensures) ∙ sym c.gone_on-next.ensures ∙ c.in-Behind.is) in
     omega arith
 
 pub loop-needed-smaller : goal.loop-needed-smaller
 loop-needed-smaller c =
-    let s = c in
-    let at = c in
-    let t = node_taken c.args.text.now s.loop-needed.at s.loop-needed.needed s.loop-needed.invariant.0 (omega arith) at.in-Behind.behind
-    (ap (gone_on _) (sym c.node_at-node.ensures) ∙ sym c.gone_on-next.ensures ∙ at.in-Behind.is) in
+    let t = node_taken c.args.text.now c.loop-needed.at c.loop-needed.needed c.loop-needed.invariant.0 (omega arith) c.in-Behind.behind
+    (ap (gone_on _) (sym c.node_at-node.ensures) ∙ sym c.gone_on-next.ensures ∙ c.in-Behind.is) in
     omega arith
 
 pub loop-needed-preserved : goal.loop-needed-preserved
 loop-needed-preserved c =
-    let s = c in
-    let at = c in
-    let b = c in
-    let t = node_taken at.args.text.now s.loop-needed.at s.loop-needed.needed s.loop-needed.invariant.0 (omega arith) b.in-Behind.behind
-    (ap (gone_on _) (sym c.node_at-node.ensures) ∙ sym c.gone_on-next.ensures ∙ b.in-Behind.is) in
-    (omega arith, (omega arith, s.loop-needed.invariant.1.1 ∙ taken_on at.args.text.now s.loop-needed.at s.loop-needed.needed b.in-Behind.behind.at b.in-Behind.behind.needed t (omega arith) c.if-text-end-ne32.false))
+    let t = node_taken c.args.text.now c.loop-needed.at c.loop-needed.needed c.loop-needed.invariant.0 (omega arith) c.in-Behind.behind
+    (ap (gone_on _) (sym c.node_at-node.ensures) ∙ sym c.gone_on-next.ensures ∙ c.in-Behind.is) in
+    (omega arith, (omega arith, c.loop-needed.invariant.1.1 ∙ taken_on c.args.text.now c.loop-needed.at c.loop-needed.needed c.in-Behind.behind.at c.in-Behind.behind.needed t (omega arith) c.if-text-end-ne32.false))
 
 pub returns : goal.returns
 returns c = sym (c.loop-needed.invariant.1.1 ∙ too_early c.loop-needed.needed (drop c.loop-needed.at c.args.text.now) (omega arith))

@@ -23,8 +23,7 @@ is_name_byte-requires c = omega arith
 
 pub returns-then-not-is_name_byte : goal.returns-then-not-is_name_byte
 returns-then-not-is_name_byte c =
-    let s = c in
-    sym (s.loop-i.invariant.1 ∙ every_stop is_name_byte c.args.word.now s.loop-i.i (omega arith) (sym c.is_name_byte.ensures ∙ c.if-not-is_name_byte.true))
+    sym (c.loop-i.invariant.1 ∙ every_stop is_name_byte c.args.word.now c.loop-i.i (omega arith) (sym c.is_name_byte.ensures ∙ c.if-not-is_name_byte.true))
 
 pub overflow_add-i : goal.overflow_add-i
 overflow_add-i c = omega arith
@@ -34,8 +33,7 @@ loop-i-smaller c = omega arith
 
 pub loop-i-preserved : goal.loop-i-preserved
 loop-i-preserved c =
-    let s = c in
-    (omega arith, s.loop-i.invariant.1 ∙ every_turn is_name_byte c.args.word.now s.loop-i.i (omega arith) (sym c.is_name_byte.ensures ∙ c.if-not-is_name_byte.false))
+    (omega arith, c.loop-i.invariant.1 ∙ every_turn is_name_byte c.args.word.now c.loop-i.i (omega arith) (sym c.is_name_byte.ensures ∙ c.if-not-is_name_byte.false))
 
 pub returns : goal.returns
 returns c = sym (c.loop-i.invariant.1 ∙ every_over is_name_byte c.args.word.now c.loop-i.i (omega arith))

@@ -16,52 +16,37 @@ at_token letter same ensured tested = ap (λ w. alike w (letter ∷ [])) (sym sa
 
 pub returns-then-is_letter : goal.returns-then-is_letter
 returns-then-is_letter c =
-    let s = c in
-    parses_true s.args.text.now s.args.at (at_token 84 c.word-token.ensures c.is_letter.ensures c.if-is_letter.true)
+    parses_true c.args.text.now c.args.at (at_token 84 c.word-token.ensures c.is_letter.ensures c.if-is_letter.true)
 
 pub returns-then-is_letter-2 : goal.returns-then-is_letter-2
 returns-then-is_letter-2 c =
-    let s = c in
-    let at = c in
-    parses_and s.args.text.now s.args.at (at_token 84 at.word-token.ensures c.is_letter.ensures c.if-is_letter.false) (at_token 43 at.word-token.ensures c.is_letter-2.ensures c.if-is_letter-2.true)
+    parses_and c.args.text.now c.args.at (at_token 84 c.word-token.ensures c.is_letter.ensures c.if-is_letter.false) (at_token 43 c.word-token.ensures c.is_letter-2.ensures c.if-is_letter-2.true)
 
 pub returns-then-is_letter-3 : goal.returns-then-is_letter-3
 returns-then-is_letter-3 c =
-    let s = c in
-    let at = c in
-    parses_implies at.args.text.now at.args.at (at_token 84 s.word-token.ensures c.is_letter.ensures c.if-is_letter.false) (at_token 43 s.word-token.ensures c.is_letter-2.ensures c.if-is_letter-2.false) (at_token 62 s.word-token.ensures c.is_letter-3.ensures c.if-is_letter-3.true)
+    parses_implies c.args.text.now c.args.at (at_token 84 c.word-token.ensures c.is_letter.ensures c.if-is_letter.false) (at_token 43 c.word-token.ensures c.is_letter-2.ensures c.if-is_letter-2.false) (at_token 62 c.word-token.ensures c.is_letter-3.ensures c.if-is_letter-3.true)
 
 pub quotation-requires : goal.quotation-requires
 quotation-requires c =
-    let s = c in
-    one_letter_fits s.args.text.now s.args.at s.requires 83 (at_token 83 c.word-token.ensures c.is_letter-4.ensures c.if-is_letter-4.true)
+    one_letter_fits c.args.text.now c.args.at c.requires 83 (at_token 83 c.word-token.ensures c.is_letter-4.ensures c.if-is_letter-4.true)
 
 pub returns-then-is_letter-4 : goal.returns-then-is_letter-4
 returns-then-is_letter-4 c =
-    let s = c in
-    let at = c in
-    c.quotation.ensures ∙ parses_said at.args.text.now at.args.at (at_token 84 s.word-token.ensures c.is_letter.ensures c.if-is_letter.false) (at_token 43 s.word-token.ensures c.is_letter-2.ensures c.if-is_letter-2.false) (at_token 62 s.word-token.ensures c.is_letter-3.ensures c.if-is_letter-3.false) (at_token 83 s.word-token.ensures c.is_letter-4.ensures c.if-is_letter-4.true)
+    c.quotation.ensures ∙ parses_said c.args.text.now c.args.at (at_token 84 c.word-token.ensures c.is_letter.ensures c.if-is_letter.false) (at_token 43 c.word-token.ensures c.is_letter-2.ensures c.if-is_letter-2.false) (at_token 62 c.word-token.ensures c.is_letter-3.ensures c.if-is_letter-3.false) (at_token 83 c.word-token.ensures c.is_letter-4.ensures c.if-is_letter-4.true)
 
 pub quotation-requires-then-is_letter-5 : goal.quotation-requires-then-is_letter-5
 quotation-requires-then-is_letter-5 c =
-    let s = c in
-    one_letter_fits s.args.text.now s.args.at s.requires 80 (at_token 80 c.word-token.ensures c.is_letter-5.ensures c.if-is_letter-5.true)
+    one_letter_fits c.args.text.now c.args.at c.requires 80 (at_token 80 c.word-token.ensures c.is_letter-5.ensures c.if-is_letter-5.true)
 
 pub returns-then-is_letter-5 : goal.returns-then-is_letter-5
 returns-then-is_letter-5 c =
-    let s = c in
-    let at = c in
-    c.quotation-then-is_letter-5.ensures ∙ parses_put at.args.text.now at.args.at (at_token 84 s.word-token.ensures c.is_letter.ensures c.if-is_letter.false) (at_token 43 s.word-token.ensures c.is_letter-2.ensures c.if-is_letter-2.false) (at_token 62 s.word-token.ensures c.is_letter-3.ensures c.if-is_letter-3.false) (at_token 83 s.word-token.ensures c.is_letter-4.ensures c.if-is_letter-4.false) (at_token 80 s.word-token.ensures c.is_letter-5.ensures c.if-is_letter-5.true)
+    c.quotation-then-is_letter-5.ensures ∙ parses_put c.args.text.now c.args.at (at_token 84 c.word-token.ensures c.is_letter.ensures c.if-is_letter.false) (at_token 43 c.word-token.ensures c.is_letter-2.ensures c.if-is_letter-2.false) (at_token 62 c.word-token.ensures c.is_letter-3.ensures c.if-is_letter-3.false) (at_token 83 c.word-token.ensures c.is_letter-4.ensures c.if-is_letter-4.false) (at_token 80 c.word-token.ensures c.is_letter-5.ensures c.if-is_letter-5.true)
 
 pub returns-then-is_name : goal.returns-then-is_name
 returns-then-is_name c =
-    let s = c in
-    let at = c in
-    ap (λ w. Name (at.args.at + length w)) s.word-token.ensures
-    ∙ parses_name at.args.text.now at.args.at (at_token 84 s.word-token.ensures c.is_letter.ensures c.if-is_letter.false) (at_token 43 s.word-token.ensures c.is_letter-2.ensures c.if-is_letter-2.false) (at_token 62 s.word-token.ensures c.is_letter-3.ensures c.if-is_letter-3.false) (at_token 83 s.word-token.ensures c.is_letter-4.ensures c.if-is_letter-4.false) (at_token 80 s.word-token.ensures c.is_letter-5.ensures c.if-is_letter-5.false) (ap is_name (sym s.word-token.ensures) ∙ sym c.is_name.ensures ∙ c.if-is_name.true)
+    ap (λ w. Name (c.args.at + length w)) c.word-token.ensures
+    ∙ parses_name c.args.text.now c.args.at (at_token 84 c.word-token.ensures c.is_letter.ensures c.if-is_letter.false) (at_token 43 c.word-token.ensures c.is_letter-2.ensures c.if-is_letter-2.false) (at_token 62 c.word-token.ensures c.is_letter-3.ensures c.if-is_letter-3.false) (at_token 83 c.word-token.ensures c.is_letter-4.ensures c.if-is_letter-4.false) (at_token 80 c.word-token.ensures c.is_letter-5.ensures c.if-is_letter-5.false) (ap is_name (sym c.word-token.ensures) ∙ sym c.is_name.ensures ∙ c.if-is_name.true)
 
 pub returns-else-is_name : goal.returns-else-is_name
 returns-else-is_name c =
-    let s = c in
-    let at = c in
-    parses_bad at.args.text.now at.args.at (at_token 84 s.word-token.ensures c.is_letter.ensures c.if-is_letter.false) (at_token 43 s.word-token.ensures c.is_letter-2.ensures c.if-is_letter-2.false) (at_token 62 s.word-token.ensures c.is_letter-3.ensures c.if-is_letter-3.false) (at_token 83 s.word-token.ensures c.is_letter-4.ensures c.if-is_letter-4.false) (at_token 80 s.word-token.ensures c.is_letter-5.ensures c.if-is_letter-5.false) (ap is_name (sym s.word-token.ensures) ∙ sym c.is_name.ensures ∙ c.if-is_name.false)
+    parses_bad c.args.text.now c.args.at (at_token 84 c.word-token.ensures c.is_letter.ensures c.if-is_letter.false) (at_token 43 c.word-token.ensures c.is_letter-2.ensures c.if-is_letter-2.false) (at_token 62 c.word-token.ensures c.is_letter-3.ensures c.if-is_letter-3.false) (at_token 83 c.word-token.ensures c.is_letter-4.ensures c.if-is_letter-4.false) (at_token 80 c.word-token.ensures c.is_letter-5.ensures c.if-is_letter-5.false) (ap is_name (sym c.word-token.ensures) ∙ sym c.is_name.ensures ∙ c.if-is_name.false)

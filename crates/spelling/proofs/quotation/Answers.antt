@@ -13,16 +13,13 @@ returns-then-space-text c = no_rest c.args.said c.args.text.now c.args.space (le
 
 pub returns-then-text-space-ne32 : goal.returns-then-text-space-ne32
 returns-then-text-space-ne32 c =
-    let s = c in
-    no_space s.args.said s.args.text.now s.args.space c.if-text-space-ne32.true
+    no_space c.args.said c.args.text.now c.args.space c.if-text-space-ne32.true
 
 pub returns-then-is_name : goal.returns-then-is_name
 returns-then-is_name c =
-    let s = c in
-    ap (λ w. Quoted s.args.said (s.args.space + 1) (s.args.space + 1 + length w)) c.word-principal.ensures
-    ∙ with_principal s.args.said s.args.text.now s.args.space c.if-text-space-ne32.false (ap is_name (sym c.word-principal.ensures) ∙ sym c.is_name.ensures ∙ c.if-is_name.true)
+    ap (λ w. Quoted c.args.said (c.args.space + 1) (c.args.space + 1 + length w)) c.word-principal.ensures
+    ∙ with_principal c.args.said c.args.text.now c.args.space c.if-text-space-ne32.false (ap is_name (sym c.word-principal.ensures) ∙ sym c.is_name.ensures ∙ c.if-is_name.true)
 
 pub returns-else-is_name : goal.returns-else-is_name
 returns-else-is_name c =
-    let s = c in
-    no_principal s.args.said s.args.text.now s.args.space c.if-text-space-ne32.false (ap is_name (sym c.word-principal.ensures) ∙ sym c.is_name.ensures ∙ c.if-is_name.false)
+    no_principal c.args.said c.args.text.now c.args.space c.if-text-space-ne32.false (ap is_name (sym c.word-principal.ensures) ∙ sym c.is_name.ensures ∙ c.if-is_name.false)

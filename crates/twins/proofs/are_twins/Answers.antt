@@ -12,52 +12,44 @@ use Rattle.twins.proofs.are_twins.Goals as goal
 pub cell_at-requires : goal.cell_at-requires
 cell_at-requires c =
     let row_i : c.args.i < 1024 = omega (arith, count_few _ _ c.requires.0, c.requires.1.0) in
-    let s = c in record { inside = (omega arith, row_i); whole = table_long _ _ s.requires.0 }
+    record { inside = (omega arith, row_i); whole = table_long _ _ c.requires.0 }
 
 pub cell_at-requires-2 : goal.cell_at-requires-2
 cell_at-requires-2 c =
     let row_j : c.args.j < 1024 = omega (arith, count_few _ _ c.requires.0, c.requires.1.1) in
-    let s = c in record { inside = (omega arith, row_j); whole = table_long _ _ s.requires.0 }
+    record { inside = (omega arith, row_j); whole = table_long _ _ c.requires.0 }
 
 pub returns-then-cell_at : goal.returns-then-cell_at
 returns-then-cell_at c =
-    let s = c in
     sym
-    (depths_apart _ _ s.requires.0 s.args.i s.args.j s.requires.1.0 s.requires.1.1 c.cell_at.ensures c.cell_at-2.ensures
+    (depths_apart _ _ c.requires.0 c.args.i c.args.j c.requires.1.0 c.requires.1.1 c.cell_at.ensures c.cell_at-2.ensures
     c.if-cell_at.true)
 
 pub returns-then-not-are_alike : goal.returns-then-not-are_alike
 returns-then-not-are_alike c =
-    let compared = c in
-    let s = c in
     sym
-    (texts_fail _ _ s.requires.0 s.args.i s.args.j s.requires.1.0 s.requires.1.1 _ _ _ compared.text_of-mine.ensures
-    compared.text_of-other.ensures compared.are_alike.ensures (c.if-not-are_alike.true))
+    (texts_fail _ _ c.requires.0 c.args.i c.args.j c.requires.1.0 c.requires.1.1 _ _ _ c.text_of-mine.ensures
+    c.text_of-other.ensures c.are_alike.ensures (c.if-not-are_alike.true))
 
 pub prefix_of-p-requires : goal.prefix_of-p-requires
 prefix_of-p-requires c =
-    let s = c in
-    readable _ _ s.requires.0 s.args.i s.requires.1.0
+    readable _ _ c.requires.0 c.args.i c.requires.1.0
 
 pub prefix_of-q-requires : goal.prefix_of-q-requires
 prefix_of-q-requires c =
-    let s = c in
-    readable _ _ s.requires.0 s.args.j s.requires.1.1
+    readable _ _ c.requires.0 c.args.j c.requires.1.1
 
 pub same_principals-requires : goal.same_principals-requires
 same_principals-requires c =
-    let s = c in
     rw (c.prefix_of-p.ensures, c.prefix_of-q.ensures)
-    (places_asked _ _ s.requires.0 s.args.i s.args.j s.requires.1.0 s.requires.1.1
+    (places_asked _ _ c.requires.0 c.args.i c.args.j c.requires.1.0 c.requires.1.1
     c.cell_at.ensures c.cell_at-2.ensures
     c.if-cell_at.false)
 
 pub returns : goal.returns
 returns c =
-    let compared = c in
-    let s = c in
     c.same_principals.ensures
-    ∙ ap₂ (λ (p q : Prefix). same_places s.args.file.now s.args.nodes.now (used p) (used q)) c.prefix_of-p.ensures c.prefix_of-q.ensures
+    ∙ ap₂ (λ (p q : Prefix). same_places c.args.file.now c.args.nodes.now (used p) (used q)) c.prefix_of-p.ensures c.prefix_of-q.ensures
     ∙ sym
-    (texts_pass _ _ s.requires.0 s.args.i s.args.j s.requires.1.0 s.requires.1.1 _ _ _ compared.text_of-mine.ensures
-    compared.text_of-other.ensures compared.are_alike.ensures (c.if-not-are_alike.false))
+    (texts_pass _ _ c.requires.0 c.args.i c.args.j c.requires.1.0 c.requires.1.1 _ _ _ c.text_of-mine.ensures
+    c.text_of-other.ensures c.are_alike.ensures (c.if-not-are_alike.false))

@@ -14,19 +14,17 @@ loop-j-init c =
     (omega arith, ap (first_from _ 0) e)
 
 pub are_twins-requires : goal.are_twins-requires
-are_twins-requires c = let s = c in (s.requires.0, (s.requires.1, omega (arith, s.requires.1)))
+are_twins-requires c = (c.requires.0, (c.requires.1, omega (arith, c.requires.1)))
 
 pub returns-then-are_twins : goal.returns-then-are_twins
 returns-then-are_twins c =
-    let at = c in
-    sym (at.loop-j.invariant.1 ∙ first_here _ c.args.i at.loop-j.j c.loop-j-test.true (sym c.are_twins.ensures ∙ c.if-are_twins.true))
+    sym (c.loop-j.invariant.1 ∙ first_here _ c.args.i c.loop-j.j c.loop-j-test.true (sym c.are_twins.ensures ∙ c.if-are_twins.true))
 
 pub loop-j-preserved : goal.loop-j-preserved
-loop-j-preserved c =
-    let at = c in (
-      omega arith,
-      at.loop-j.invariant.1 ∙ first_later _ c.args.i at.loop-j.j c.loop-j-test.true (sym c.are_twins.ensures ∙ c.if-are_twins.false),
-    )
+loop-j-preserved c = (
+  omega arith,
+  c.loop-j.invariant.1 ∙ first_later _ c.args.i c.loop-j.j c.loop-j-test.true (sym c.are_twins.ensures ∙ c.if-are_twins.false),
+)
 
 pub returns : goal.returns
 returns c = sym (c.loop-j.invariant.1 ∙ first_none _ c.args.i c.loop-j.j c.loop-j-test.false)

@@ -35,44 +35,37 @@ pub same_principal-requires : goal.same_principal-requires
 same_principal-requires c =
     let fits : c.args.p.count ≤ length c.args.p.places = omega (arith, c.requires.0.0.few, c.requires.0.0.full) in
     let fits_too : c.args.p.count ≤ length c.args.q.places = omega (arith, c.requires.0.0.few, c.requires.0.1.full) in
-    let first_quoting : Quoting c.args.file.now c.args.nodes.now (get_or c.args.p.places c.loop-k.k blank).node = let s = c in
-    each_place (Quoting s.args.file.now s.args.nodes.now) s.args.p.places s.args.p.count c.loop-k.k blank (fits)
-    c.loop-k-test.true s.requires.1.1.0 in
-    let second_quoting : Quoting c.args.file.now c.args.nodes.now (get_or c.args.q.places c.loop-k.k blank).node = let s = c in
-    each_place (Quoting s.args.file.now s.args.nodes.now) s.args.q.places s.args.p.count c.loop-k.k blank (fits_too)
+    let first_quoting : Quoting c.args.file.now c.args.nodes.now (get_or c.args.p.places c.loop-k.k blank).node = each_place (Quoting c.args.file.now c.args.nodes.now) c.args.p.places c.args.p.count c.loop-k.k blank fits
+    c.loop-k-test.true c.requires.1.1.0 in
+    let second_quoting : Quoting c.args.file.now c.args.nodes.now (get_or c.args.q.places c.loop-k.k blank).node = each_place (Quoting c.args.file.now c.args.nodes.now) c.args.q.places c.args.p.count c.loop-k.k blank fits_too
     c.loop-k-test.true
-    (subst (λ (n : ℕ). EachPlace (Quoting s.args.file.now s.args.nodes.now) (take n s.args.q.places)) (sym s.requires.1.0) s.requires.1.1.1) in
+    (subst (λ (n : ℕ). EachPlace (Quoting c.args.file.now c.args.nodes.now) (take n c.args.q.places)) (sym c.requires.1.0) c.requires.1.1.1) in
     (first_quoting, second_quoting)
 
 pub returns-then-not-same_principal : goal.returns-then-not-same_principal
 returns-then-not-same_principal c =
     let fits : c.args.p.count ≤ length c.args.p.places = omega (arith, c.requires.0.0.few, c.requires.0.0.full) in
     let fits_too : c.args.p.count ≤ length c.args.q.places = omega (arith, c.requires.0.0.few, c.requires.0.1.full) in
-    let at = c in
-    let s = at in
-    sym (ap (λ (n : ℕ). same_places s.args.file.now s.args.nodes.now (take s.args.p.count s.args.p.places) (take n s.args.q.places)) (sym s.requires.1.0)
-    ∙ sym at.loop-k.invariant.1
-    ∙ places_differ s.args.file.now s.args.nodes.now s.args.p.places s.args.q.places s.args.p.count at.loop-k.k blank
-    (fits) (fits_too) at.loop-k-test.true (sym c.same_principal.ensures ∙ c.if-not-same_principal.true))
+    sym (ap (λ (n : ℕ). same_places c.args.file.now c.args.nodes.now (take c.args.p.count c.args.p.places) (take n c.args.q.places)) (sym c.requires.1.0)
+    ∙ sym c.loop-k.invariant.1
+    ∙ places_differ c.args.file.now c.args.nodes.now c.args.p.places c.args.q.places c.args.p.count c.loop-k.k blank
+    fits fits_too c.loop-k-test.true (sym c.same_principal.ensures ∙ c.if-not-same_principal.true))
 
 pub loop-k-preserved : goal.loop-k-preserved
 loop-k-preserved c =
     let fits : c.args.p.count ≤ length c.args.p.places = omega (arith, c.requires.0.0.few, c.requires.0.0.full) in
-    let fits_too : c.args.p.count ≤ length c.args.q.places = omega (arith, c.requires.0.0.few, c.requires.0.1.full) in
-    let at = c in
-    let s = at in (
+    let fits_too : c.args.p.count ≤ length c.args.q.places = omega (arith, c.requires.0.0.few, c.requires.0.1.full) in (
       omega arith,
-      sym (places_turn s.args.file.now s.args.nodes.now s.args.p.places s.args.q.places s.args.p.count at.loop-k.k blank
-          (fits) (fits_too) at.loop-k-test.true (sym c.same_principal.ensures ∙ c.if-not-same_principal.false))
-          ∙ at.loop-k.invariant.1,
+      sym (places_turn c.args.file.now c.args.nodes.now c.args.p.places c.args.q.places c.args.p.count c.loop-k.k blank
+          fits fits_too c.loop-k-test.true (sym c.same_principal.ensures ∙ c.if-not-same_principal.false))
+          ∙ c.loop-k.invariant.1,
     )
 
 pub returns : goal.returns
 returns c =
     let fits : c.args.p.count ≤ length c.args.p.places = omega (arith, c.requires.0.0.few, c.requires.0.0.full) in
     let fits_too : c.args.p.count ≤ length c.args.q.places = omega (arith, c.requires.0.0.few, c.requires.0.1.full) in
-    let s = c in
-    sym (ap (λ (n : ℕ). same_places s.args.file.now s.args.nodes.now (take s.args.p.count s.args.p.places) (take n s.args.q.places)) (sym s.requires.1.0)
+    sym (ap (λ (n : ℕ). same_places c.args.file.now c.args.nodes.now (take c.args.p.count c.args.p.places) (take n c.args.q.places)) (sym c.requires.1.0)
     ∙ sym c.loop-k.invariant.1
-    ∙ places_over s.args.file.now s.args.nodes.now s.args.p.places s.args.q.places s.args.p.count c.loop-k.k blank
-    (fits) (fits_too) c.loop-k-test.false)
+    ∙ places_over c.args.file.now c.args.nodes.now c.args.p.places c.args.q.places c.args.p.count c.loop-k.k blank
+    fits fits_too c.loop-k-test.false)

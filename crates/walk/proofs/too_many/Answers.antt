@@ -22,23 +22,19 @@ own_end-end-requires c = omega arith
 
 pub next_spot-next-requires : goal.next_spot-next-requires
 next_spot-next-requires c =
-    let s = c in
-    walk_within c.args.file.now s.loop-at.at s.loop-at.line s.loop-at.count s.loop-at.invariant.1.0 s.loop-at.invariant.1.1 (omega arith) c.own_end-end.result (c.own_end-end.ensures ∙ ap (behind_own s.loop-at.at) c.node_at.ensures)
+    walk_within c.args.file.now c.loop-at.at c.loop-at.line c.loop-at.count c.loop-at.invariant.1.0 c.loop-at.invariant.1.1 (omega arith) c.own_end-end.result (c.own_end-end.ensures ∙ ap (behind_own c.loop-at.at) c.node_at.ensures)
 
 pub overflow_add-count : goal.overflow_add-count
 overflow_add-count c = omega arith
 
 pub loop-at-smaller : goal.loop-at-smaller
 loop-at-smaller c =
-    let s = c in
-    omega (arith, walk_later c.args.file.now s.loop-at.at s.loop-at.line s.loop-at.count s.loop-at.invariant.1.0 s.loop-at.invariant.1.1 (omega arith) c.own_end-end.result (c.own_end-end.ensures ∙ ap (behind_own s.loop-at.at) c.node_at.ensures) c.next_spot-next.result c.next_spot-next.ensures)
+    omega (arith, walk_later c.args.file.now c.loop-at.at c.loop-at.line c.loop-at.count c.loop-at.invariant.1.0 c.loop-at.invariant.1.1 (omega arith) c.own_end-end.result (c.own_end-end.ensures ∙ ap (behind_own c.loop-at.at) c.node_at.ensures) c.next_spot-next.result c.next_spot-next.ensures)
 
 pub loop-at-preserved : goal.loop-at-preserved
 loop-at-preserved c =
-    let s = c in
-    let at = c in
-    let here = walk_here at.args.file.now s.loop-at.at s.loop-at.line s.loop-at.count s.loop-at.invariant.1.0 s.loop-at.invariant.1.1 (omega arith) in
-    (omega arith, (omega arith, walk_on at.args.file.now s.loop-at.at s.loop-at.line s.loop-at.count s.loop-at.invariant.1.0 s.loop-at.invariant.1.1 (omega arith) c.own_end-end.result (c.own_end-end.ensures ∙ ap (behind_own s.loop-at.at) c.node_at.ensures) c.next_spot-next.result c.next_spot-next.ensures))
+    let here = walk_here c.args.file.now c.loop-at.at c.loop-at.line c.loop-at.count c.loop-at.invariant.1.0 c.loop-at.invariant.1.1 (omega arith) in
+    (omega arith, (omega arith, walk_on c.args.file.now c.loop-at.at c.loop-at.line c.loop-at.count c.loop-at.invariant.1.0 c.loop-at.invariant.1.1 (omega arith) c.own_end-end.result (c.own_end-end.ensures ∙ ap (behind_own c.loop-at.at) c.node_at.ensures) c.next_spot-next.result c.next_spot-next.ensures))
 
 pub returns : goal.returns
 unfolding most_nodes

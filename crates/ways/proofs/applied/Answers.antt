@@ -15,8 +15,7 @@ linked_at-q-requires c = omega arith
 
 pub loop-q-init : goal.loop-q-init
 loop-q-init c =
-    let start = c in
-    best_begins _ _ _ _ _ 8192 start.requires.0.right_chains start.requires.1 c.linked_at-q.ensures
+    best_begins _ _ _ _ _ 8192 c.requires.0.right_chains c.requires.1 c.linked_at-q.ensures
 
 pub condition-p-requires : goal.condition-p-requires
 condition-p-requires c = omega arith
@@ -30,29 +29,22 @@ overflow_add-q c = omega arith
 pub linked_at-q-requires-in-loop-q : goal.linked_at-q-requires-in-loop-q
 linked_at-q-requires-in-loop-q c = omega arith
 
-pub loop-q-smaller : goal.loop-q-smaller
-loop-q-smaller c =
-    let step : (let loop = c in
-    let a = loop.args in
-    FirstFrom a.table.now 3 a.f a.n (suc loop.loop-q.q) c.linked_at-q-in-loop-q.result) = let loop = c in
-    let start = loop in
+-- the next of the chain is the first behind this one
+step : (c : goal.After-linked_at-q-in-loop-q)
+    → FirstFrom c.args.table.now 3 c.args.f c.args.n (suc c.loop-q.q) c.linked_at-q-in-loop-q.result
+step c =
     let inside = c.loop-q-test.true in
-    chain_step _ 3 _ _ 8192 _ _ start.requires.0.right_chains start.requires.1 inside (loop.loop-q.invariant.here inside) c.linked_at-q-in-loop-q.ensures in
-    omega (arith, goes_on _ _ _ _ _ _ c.loop-q-test.true (step))
+    chain_step _ 3 _ _ 8192 _ _ c.requires.0.right_chains c.requires.1 inside (c.loop-q.invariant.here inside) c.linked_at-q-in-loop-q.ensures
+
+pub loop-q-smaller : goal.loop-q-smaller
+loop-q-smaller c = omega (arith, goes_on _ _ _ _ _ _ c.loop-q-test.true (step c))
 
 pub loop-q-preserved : goal.loop-q-preserved
 loop-q-preserved c =
-    let step : (let loop = c in
-    let a = loop.args in
-    FirstFrom a.table.now 3 a.f a.n (suc loop.loop-q.q) c.linked_at-q-in-loop-q.result) = let loop = c in
-    let start = loop in
     let inside = c.loop-q-test.true in
-    chain_step _ 3 _ _ 8192 _ _ start.requires.0.right_chains start.requires.1 inside (loop.loop-q.invariant.here inside) c.linked_at-q-in-loop-q.ensures in
-    let turn = c in
-    let inside = turn.loop-q-test.true in
     elim c.if-p-first.branch [
-      | then-p-first w ↦ rw (w.first-is, w.second-is) (best_taken _ _ _ _ _ _ _ turn.loop-q.invariant inside turn.condition-p.ensures w.if-p-first.true (step))
-      | else-p-first w ↦ rw (w.first-is, w.second-is) (best_kept _ _ _ _ _ _ _ turn.loop-q.invariant inside turn.condition-p.ensures w.if-p-first.false (step))
+      | then-p-first w ↦ rw (w.first-is, w.second-is) (best_taken _ _ _ _ _ _ _ c.loop-q.invariant inside c.condition-p.ensures w.if-p-first.true (step c))
+      | else-p-first w ↦ rw (w.first-is, w.second-is) (best_kept _ _ _ _ _ _ _ c.loop-q.invariant inside c.condition-p.ensures w.if-p-first.false (step c))
     ]
 
 pub returns-then-first-n : goal.returns-then-first-n

@@ -3,8 +3,7 @@ use Rattle.ways.proofs.Pairs.{attach_found, attach_unmarked, attach_other}
 use Rattle.ways.proofs.attached.Goals as goal
 
 pub returns-then-is_marked : goal.returns-then-is_marked
-returns-then-is_marked c = let b = c in
-    attach_found _ _ _ _ b.cell_at.ensures b.if-cell_at-eq-IMPLICATION.true b.cell_at-p.ensures c.is_marked.ensures
+returns-then-is_marked c = attach_found _ _ _ _ c.cell_at.ensures c.if-cell_at-eq-IMPLICATION.true c.cell_at-p.ensures c.is_marked.ensures
     c.if-is_marked.true
 
 pub returns-else-is_marked : goal.returns-else-is_marked

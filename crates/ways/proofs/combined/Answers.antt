@@ -3,8 +3,7 @@ use Rattle.ways.proofs.Pairs.{both_found, both_unmarked, both_other}
 use Rattle.ways.proofs.combined.Goals as goal
 
 pub returns-then-are_marked : goal.returns-then-are_marked
-returns-then-are_marked c = let b = c in
-    both_found _ _ _ _ b.cell_at.ensures b.if-cell_at-eq-CONJUNCTION.true b.cell_at-left.ensures
+returns-then-are_marked c = both_found _ _ _ _ c.cell_at.ensures c.if-cell_at-eq-CONJUNCTION.true c.cell_at-left.ensures
     c.cell_at-right.ensures c.are_marked.ensures c.if-are_marked.true
 
 pub returns-else-are_marked : goal.returns-else-are_marked

@@ -4,11 +4,8 @@ use Rattle.ways.proofs.Pairs.{condition_found, condition_unmarked, condition_oth
 use Rattle.ways.proofs.condition.Goals as goal
 
 pub returns-then-is_marked-2 : goal.returns-then-is_marked-2
-returns-then-is_marked-2 c = let second = c in
-    let kind = second in
-    let first = kind in
-    condition_found _ _ _ _ (sym first.is_marked.ensures ∙ first.if-is_marked.true)
-    (sym kind.cell_at.ensures ∙ kind.if-cell_at-eq-IMPLICATION.true) second.cell_at-p.ensures (sym second.is_marked-then-cell_at-eq-IMPLICATION.ensures ∙ c.if-is_marked-2.true)
+returns-then-is_marked-2 c = condition_found _ _ _ _ (sym c.is_marked.ensures ∙ c.if-is_marked.true)
+    (sym c.cell_at.ensures ∙ c.if-cell_at-eq-IMPLICATION.true) c.cell_at-p.ensures (sym c.is_marked-then-cell_at-eq-IMPLICATION.ensures ∙ c.if-is_marked-2.true)
 
 pub returns-else-is_marked-2 : goal.returns-else-is_marked-2
 returns-else-is_marked-2 c = condition_unmarked _ _ _ _ c.cell_at-p.ensures (sym c.is_marked-then-cell_at-eq-IMPLICATION.ensures ∙ c.if-is_marked-2.false)

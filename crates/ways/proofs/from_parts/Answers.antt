@@ -6,12 +6,9 @@ pub returns-in_default : goal.returns-in_default
 returns-in_default c = last_both _ _ _ _ c.combined-both.ensures c.in_default.is
 
 pub returns-in_default-apply : goal.returns-in_default-apply
-returns-in_default-apply c = let first = c in
-    last_apply _ _ _ _ first.combined-both.ensures first.in-Missing.is c.applied-apply.ensures
+returns-in_default-apply c = last_apply _ _ _ _ c.combined-both.ensures c.in-Missing.is c.applied-apply.ensures
     c.in_default-apply.is
 
 pub returns : goal.returns
-returns c = let second = c in
-    let first = second in
-    last_attach _ _ _ _ first.combined-both.ensures first.in-Missing.is second.applied-apply.ensures
-    second.in-Missing-apply.is c.attached.ensures
+returns c = last_attach _ _ _ _ c.combined-both.ensures c.in-Missing.is c.applied-apply.ensures
+    c.in-Missing-apply.is c.attached.ensures

@@ -1,5 +1,5 @@
 -- `ways::least_way` meets its contract: rule by rule, the first that leads to f.
-use Rattle.ways.proofs.Rulewise.{NotAtOnce, by_hypothesis, by_given, not_at_once, by_weaken, by_left, past_left, by_right, past_right}
+use Rattle.ways.proofs.Rulewise.{by_hypothesis, by_given, not_at_once, by_weaken, by_left, past_left, by_right, past_right}
 use Rattle.ways.proofs.least_way.Goals as goal
 
 pub returns-then-cell_at-eq1 : goal.returns-then-cell_at-eq1
@@ -12,41 +12,19 @@ returns-then-cell_at-eq-TRUTH c =
 
 pub returns-then-weaken-n : goal.returns-then-weaken-n
 returns-then-weaken-n c =
-    let tried : (let a = c.args in
-    NotAtOnce a.table.now a.n a.marks.now a.f) = let second = c in
-    not_at_once _ _ _ _ second.cell_at.ensures second.if-cell_at-eq1.false second.cell_at-2.ensures
-    c.if-cell_at-eq-TRUTH.false in
-    by_weaken _ _ _ _ (tried) c.stronger-weaken.ensures c.if-weaken-n.true
+    by_weaken _ _ _ _ (not_at_once _ _ _ _ c.cell_at.ensures c.if-cell_at-eq1.false c.cell_at-2.ensures c.if-cell_at-eq-TRUTH.false) c.stronger-weaken.ensures c.if-weaken-n.true
 
 pub returns-then-left-n : goal.returns-then-left-n
 returns-then-left-n c =
-    let tried : (let a = c.args in
-    NotAtOnce a.table.now a.n a.marks.now a.f) = let second = c in
-    not_at_once _ _ _ _ second.cell_at.ensures second.if-cell_at-eq1.false second.cell_at-2.ensures
-    c.if-cell_at-eq-TRUTH.false in
-    let third = c in
-    by_left _ _ _ _ (tried) third.stronger-weaken.ensures third.if-weaken-n.false c.whole_with-left.ensures
+    by_left _ _ _ _ (not_at_once _ _ _ _ c.cell_at.ensures c.if-cell_at-eq1.false c.cell_at-2.ensures c.if-cell_at-eq-TRUTH.false) c.stronger-weaken.ensures c.if-weaken-n.false c.whole_with-left.ensures
     c.if-left-n.true
 
 pub returns-then-right-n : goal.returns-then-right-n
 returns-then-right-n c =
-    let tried : (let a = c.args in
-    NotAtOnce a.table.now a.n a.marks.now a.f) = let second = c in
-    not_at_once _ _ _ _ second.cell_at.ensures second.if-cell_at-eq1.false second.cell_at-2.ensures
-    c.if-cell_at-eq-TRUTH.false in
-    let fourth = c in
-    let third = fourth in
-    past_left _ _ _ _ (tried) third.stronger-weaken.ensures third.if-weaken-n.false fourth.whole_with-left.ensures
-    fourth.if-left-n.false (by_right _ _ _ _ c.whole_with-right.ensures c.if-right-n.true)
+    past_left _ _ _ _ (not_at_once _ _ _ _ c.cell_at.ensures c.if-cell_at-eq1.false c.cell_at-2.ensures c.if-cell_at-eq-TRUTH.false) c.stronger-weaken.ensures c.if-weaken-n.false c.whole_with-left.ensures
+    c.if-left-n.false (by_right _ _ _ _ c.whole_with-right.ensures c.if-right-n.true)
 
 pub returns : goal.returns
 returns c =
-    let tried : (let a = c.args in
-    NotAtOnce a.table.now a.n a.marks.now a.f) = let second = c in
-    not_at_once _ _ _ _ second.cell_at.ensures second.if-cell_at-eq1.false second.cell_at-2.ensures
-    c.if-cell_at-eq-TRUTH.false in
-    let fifth = c in
-    let fourth = fifth in
-    let third = fourth in
-    past_left _ _ _ _ (tried) third.stronger-weaken.ensures third.if-weaken-n.false fourth.whole_with-left.ensures
-    fourth.if-left-n.false (past_right _ _ _ _ fifth.whole_with-right.ensures fifth.if-right-n.false c.from_parts.ensures)
+    past_left _ _ _ _ (not_at_once _ _ _ _ c.cell_at.ensures c.if-cell_at-eq1.false c.cell_at-2.ensures c.if-cell_at-eq-TRUTH.false) c.stronger-weaken.ensures c.if-weaken-n.false c.whole_with-left.ensures
+    c.if-left-n.false (past_right _ _ _ _ c.whole_with-right.ensures c.if-right-n.false c.from_parts.ensures)

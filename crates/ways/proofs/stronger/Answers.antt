@@ -16,21 +16,18 @@ cell_at-x-requires c = omega arith
 
 pub overflow_add-x : goal.overflow_add-x
 overflow_add-x c =
-    let start = c in
-    omega (arith, start.requires.0.below start.args.f start.requires.1)
+    omega (arith, c.requires.0.below c.args.f c.requires.1)
 
 pub linked_at-p-requires : goal.linked_at-p-requires
 linked_at-p-requires c =
-    let start = c in
-    omega (arith, start.requires.0.below start.args.f start.requires.1)
+    omega (arith, c.requires.0.below c.args.f c.requires.1)
 
 pub loop-p-init : goal.loop-p-init
 loop-p-init c =
-    let start = c in
-    let a = start.args in
-    let ready = start.requires.0 in
+    let a = c.args in
+    let ready = c.requires.0 in
     chain_begins (λ (q : ℕ). leads_to a.table.now a.n a.marks.now a.f (Weaken q)) a.table.now 4 a.n a.links.now
-    16384 (cell a.table.now 4 a.f) ready.bottom_chains (ready.below a.f start.requires.1)
+    16384 (cell a.table.now 4 a.f) ready.bottom_chains (ready.below a.f c.requires.1)
     (weaken_bottom a.table.now a.n a.marks.now a.f)
     (rw (← c.cell_at-x.ensures) c.linked_at-p.ensures)
 
@@ -43,8 +40,7 @@ weakens-requires c = omega arith
 pub returns-then-weakens : goal.returns-then-weakens
 unfolding least_premise
 returns-then-weakens c =
-    let loop = c in
-    walk_found _ _ _ _ _ _ loop.loop-p.invariant c.loop-p-test.true
+    walk_found _ _ _ _ _ _ c.loop-p.invariant c.loop-p-test.true
     (weaken_passes _ _ _ _ _ c.is_marked.ensures c.if-is_marked.true c.weakens.ensures
     c.if-weakens.true)
 
@@ -57,49 +53,33 @@ overflow_add-p c = omega arith
 pub linked_at-p-requires-in-loop-p : goal.linked_at-p-requires-in-loop-p
 linked_at-p-requires-in-loop-p c = omega arith
 
-pub loop-p-smaller : goal.loop-p-smaller
-loop-p-smaller c =
-    let failed : (let loop = c in
-    let a = loop.args in
-    leads_to a.table.now a.n a.marks.now a.f (Weaken loop.loop-p.p) ≡ false) = elim c.if-is_marked.branch [
+-- the premise that was looked at does not lead to f
+failed : (c : goal.After-linked_at-p-in-loop-p)
+    → leads_to c.args.table.now c.args.n c.args.marks.now c.args.f (Weaken c.loop-p.p) ≡ false
+failed c =
+    elim c.if-is_marked.branch [
       | then-is_marked+else-weakens w ↦ weaken_stays _ _ _ _ _ w.weakens.ensures w.if-weakens.false
       | else-is_marked w ↦ weaken_unmarked _ _ _ _ _ c.is_marked.ensures w.if-is_marked.false
-    ] in
-    let turn : (let loop = c in
-    let a = loop.args in
-    Walked (λ (q : ℕ). leads_to a.table.now a.n a.marks.now a.f (Weaken q)) a.table.now 4 (cell a.table.now 4 a.f) a.n
+    ]
+
+-- so the walk goes on behind it
+turn : (c : goal.After-linked_at-p-in-loop-p)
+    → Walked (λ (q : ℕ). leads_to c.args.table.now c.args.n c.args.marks.now c.args.f (Weaken q)) c.args.table.now 4 (cell c.args.table.now 4 c.args.f) c.args.n
     c.linked_at-p-in-loop-p.result
-    × (loop.loop-p.p < c.linked_at-p-in-loop-p.result)) = let loop = c in
-    let start = loop in
-    let a = start.args in
-    let ready = start.requires.0 in
+    × (c.loop-p.p < c.linked_at-p-in-loop-p.result)
+turn c =
+    let a = c.args in
+    let ready = c.requires.0 in
     chain_goes_on (λ (q : ℕ). leads_to a.table.now a.n a.marks.now a.f (Weaken q)) a.table.now 4 a.n a.links.now
-    16384 (cell a.table.now 4 a.f) ready.bottom_chains (ready.below a.f start.requires.1)
-    (weaken_bottom a.table.now a.n a.marks.now a.f) loop.loop-p.invariant
-    c.loop-p-test.true (failed) c.linked_at-p-in-loop-p.ensures in
-    omega (arith, (turn).1)
+    16384 (cell a.table.now 4 a.f) ready.bottom_chains (ready.below a.f c.requires.1)
+    (weaken_bottom a.table.now a.n a.marks.now a.f) c.loop-p.invariant
+    c.loop-p-test.true (failed c) c.linked_at-p-in-loop-p.ensures
+
+pub loop-p-smaller : goal.loop-p-smaller
+loop-p-smaller c = omega (arith, (turn c).1)
 
 pub loop-p-preserved : goal.loop-p-preserved
-loop-p-preserved c =
-    let failed : (let loop = c in
-    let a = loop.args in
-    leads_to a.table.now a.n a.marks.now a.f (Weaken loop.loop-p.p) ≡ false) = elim c.if-is_marked.branch [
-      | then-is_marked+else-weakens w ↦ weaken_stays _ _ _ _ _ w.weakens.ensures w.if-weakens.false
-      | else-is_marked w ↦ weaken_unmarked _ _ _ _ _ c.is_marked.ensures w.if-is_marked.false
-    ] in
-    let turn : (let loop = c in
-    let a = loop.args in
-    Walked (λ (q : ℕ). leads_to a.table.now a.n a.marks.now a.f (Weaken q)) a.table.now 4 (cell a.table.now 4 a.f) a.n
-    c.linked_at-p-in-loop-p.result
-    × (loop.loop-p.p < c.linked_at-p-in-loop-p.result)) = let loop = c in
-    let start = loop in
-    let a = start.args in
-    let ready = start.requires.0 in
-    chain_goes_on (λ (q : ℕ). leads_to a.table.now a.n a.marks.now a.f (Weaken q)) a.table.now 4 a.n a.links.now
-    16384 (cell a.table.now 4 a.f) ready.bottom_chains (ready.below a.f start.requires.1)
-    (weaken_bottom a.table.now a.n a.marks.now a.f) loop.loop-p.invariant
-    c.loop-p-test.true (failed) c.linked_at-p-in-loop-p.ensures in
-    (turn).0
+loop-p-preserved c = (turn c).0
 
 pub returns : goal.returns
 unfolding least_premise

@@ -16,10 +16,9 @@ linked_at-p-requires c = omega arith
 
 pub loop-p-init : goal.loop-p-init
 loop-p-init c =
-    let start = c in
-    let a = start.args in
+    let a = c.args in
     chain_begins (is_whole a.column a.table.now a.n a.marks.now a.f) a.table.now a.column a.n a.links.now
-    a.at a.f start.requires.4 start.requires.1
+    a.at a.f c.requires.4 c.requires.1
     (whole_part a.table.now a.n a.marks.now a.f a.column)
     c.linked_at-p.ensures
 
@@ -32,8 +31,7 @@ has_part-requires c = omega arith
 pub returns-then-has_part : goal.returns-then-has_part
 unfolding least_whole
 returns-then-has_part c =
-    let loop = c in
-    walk_found _ _ _ _ _ _ loop.loop-p.invariant c.loop-p-test.true
+    walk_found _ _ _ _ _ _ c.loop-p.invariant c.loop-p-test.true
     (whole_passes _ _ _ _ _ _ c.is_marked.ensures c.if-is_marked.true c.has_part.ensures
     c.if-has_part.true)
 
@@ -46,47 +44,32 @@ overflow_add-at-in-loop-p-2 c = omega arith
 pub linked_at-p-requires-in-loop-p : goal.linked_at-p-requires-in-loop-p
 linked_at-p-requires-in-loop-p c = omega arith
 
-pub loop-p-smaller : goal.loop-p-smaller
-loop-p-smaller c =
-    let failed : (let loop = c in
-    let a = loop.args in
-    is_whole a.column a.table.now a.n a.marks.now a.f loop.loop-p.p ≡ false) = elim c.if-is_marked.branch [
+-- the conjunction that was looked at is none of f's
+failed : (c : goal.After-linked_at-p-in-loop-p)
+    → is_whole c.args.column c.args.table.now c.args.n c.args.marks.now c.args.f c.loop-p.p ≡ false
+failed c =
+    elim c.if-is_marked.branch [
       | then-is_marked+else-has_part w ↦ whole_other _ _ _ _ _ _ w.has_part.ensures w.if-has_part.false
       | else-is_marked w ↦ whole_unmarked _ _ _ _ _ _ c.is_marked.ensures w.if-is_marked.false
-    ] in
-    let turn : (let loop = c in
-    let a = loop.args in
-    Walked (is_whole a.column a.table.now a.n a.marks.now a.f) a.table.now a.column a.f a.n
+    ]
+
+-- so the walk goes on behind it
+turn : (c : goal.After-linked_at-p-in-loop-p)
+    → Walked (is_whole c.args.column c.args.table.now c.args.n c.args.marks.now c.args.f) c.args.table.now c.args.column c.args.f c.args.n
     c.linked_at-p-in-loop-p.result
-    × (loop.loop-p.p < c.linked_at-p-in-loop-p.result)) = let loop = c in
-    let start = loop in
-    let a = start.args in
+    × (c.loop-p.p < c.linked_at-p-in-loop-p.result)
+turn c =
+    let a = c.args in
     chain_goes_on (is_whole a.column a.table.now a.n a.marks.now a.f) a.table.now a.column a.n a.links.now
-    a.at a.f start.requires.4 start.requires.1
-    (whole_part a.table.now a.n a.marks.now a.f a.column) loop.loop-p.invariant
-    c.loop-p-test.true (failed) c.linked_at-p-in-loop-p.ensures in
-    omega (arith, (turn).1)
+    a.at a.f c.requires.4 c.requires.1
+    (whole_part a.table.now a.n a.marks.now a.f a.column) c.loop-p.invariant
+    c.loop-p-test.true (failed c) c.linked_at-p-in-loop-p.ensures
+
+pub loop-p-smaller : goal.loop-p-smaller
+loop-p-smaller c = omega (arith, (turn c).1)
 
 pub loop-p-preserved : goal.loop-p-preserved
-loop-p-preserved c =
-    let failed : (let loop = c in
-    let a = loop.args in
-    is_whole a.column a.table.now a.n a.marks.now a.f loop.loop-p.p ≡ false) = elim c.if-is_marked.branch [
-      | then-is_marked+else-has_part w ↦ whole_other _ _ _ _ _ _ w.has_part.ensures w.if-has_part.false
-      | else-is_marked w ↦ whole_unmarked _ _ _ _ _ _ c.is_marked.ensures w.if-is_marked.false
-    ] in
-    let turn : (let loop = c in
-    let a = loop.args in
-    Walked (is_whole a.column a.table.now a.n a.marks.now a.f) a.table.now a.column a.f a.n
-    c.linked_at-p-in-loop-p.result
-    × (loop.loop-p.p < c.linked_at-p-in-loop-p.result)) = let loop = c in
-    let start = loop in
-    let a = start.args in
-    chain_goes_on (is_whole a.column a.table.now a.n a.marks.now a.f) a.table.now a.column a.n a.links.now
-    a.at a.f start.requires.4 start.requires.1
-    (whole_part a.table.now a.n a.marks.now a.f a.column) loop.loop-p.invariant
-    c.loop-p-test.true (failed) c.linked_at-p-in-loop-p.ensures in
-    (turn).0
+loop-p-preserved c = (turn c).0
 
 pub returns : goal.returns
 unfolding least_whole

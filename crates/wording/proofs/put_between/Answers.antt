@@ -17,5 +17,4 @@ returns-then-word-eq-WORD_THEN c = some_as (sym (ap between_word c.if-word-eq-WO
 pub returns : goal.returns
 unfolding bytes
 returns c =
-    let other = c in
-    some_as (closing _ other.if-word-eq-WORD_AND.false other.if-word-eq-WORD_THEN.false) c.put_some-2.ensures
+    some_as (closing _ c.if-word-eq-WORD_AND.false c.if-word-eq-WORD_THEN.false) c.put_some-2.ensures

@@ -9,55 +9,39 @@ use Rattle.wording.proofs.put_own.Goals as goal
 
 pub cell_at-kind-requires : goal.cell_at-kind-requires
 cell_at-kind-requires c =
-    let s = c in record { inside = (omega arith, omega (arith, count_few _ _ s.requires.0, s.requires.1)); whole = table_long _ _ s.requires.0 }
+    record { inside = (omega arith, omega (arith, count_few _ _ c.requires.0, c.requires.1)); whole = table_long _ _ c.requires.0 }
 
 pub returns-then-kind-eq-TRUE : goal.returns-then-kind-eq-TRUE
 unfolding bytes
 returns-then-kind-eq-TRUE c =
-    let kind = c in
-    let s = kind in
-    some_as (own_true _ _ s.requires.0 s.args.i s.requires.1 _ kind.cell_at-kind.ensures kind.if-kind-eq-TRUE.true) c.put_some.ensures
+    some_as (own_true _ _ c.requires.0 c.args.i c.requires.1 _ c.cell_at-kind.ensures c.if-kind-eq-TRUE.true) c.put_some.ensures
 
 pub returns-then-kind-eq-NAME : goal.returns-then-kind-eq-NAME
 returns-then-kind-eq-NAME c =
-    let text = c in
-    let cell = text in
-    let s = cell in
     some_as
-    (text.text_of-name.ensures
-    ∙ own_name _ _ s.requires.0 s.args.i s.requires.1 _ cell.cell_at-kind.ensures text.if-kind-eq-NAME.true)
+    (c.text_of-name.ensures
+    ∙ own_name _ _ c.requires.0 c.args.i c.requires.1 _ c.cell_at-kind.ensures c.if-kind-eq-NAME.true)
     c.put_some-then-kind-eq-NAME.ensures
 
 pub returns-then-kind-eq-AND : goal.returns-then-kind-eq-AND
 returns-then-kind-eq-AND c =
-    let cell = c in
-    let s = cell in
-    some_as (own_and _ _ s.requires.0 s.args.i s.requires.1 _ cell.cell_at-kind.ensures c.if-kind-eq-AND.true) (some_nothing _ _)
+    some_as (own_and _ _ c.requires.0 c.args.i c.requires.1 _ c.cell_at-kind.ensures c.if-kind-eq-AND.true) (some_nothing _ _)
 
 pub returns-then-kind-eq-IMPLIES : goal.returns-then-kind-eq-IMPLIES
 unfolding bytes
 returns-then-kind-eq-IMPLIES c =
-    let kind = c in
-    let cell = kind in
-    let s = cell in
-    some_as (own_rule _ _ s.requires.0 s.args.i s.requires.1 _ cell.cell_at-kind.ensures kind.if-kind-eq-IMPLIES.true) c.put_some-then-kind-eq-IMPLIES.ensures
+    some_as (own_rule _ _ c.requires.0 c.args.i c.requires.1 _ c.cell_at-kind.ensures c.if-kind-eq-IMPLIES.true) c.put_some-then-kind-eq-IMPLIES.ensures
 
 pub put_quotation-requires : goal.put_quotation-requires
-put_quotation-requires c =
-    let kind = c in
-    let cell = kind in
-    let s = cell in (
-      own_quoting _ _ s.requires.0 s.args.i s.requires.1 _ cell.cell_at-kind.ensures kind.if-kind-eq-TRUE.false
-          kind.if-kind-eq-NAME.false kind.if-kind-eq-AND.false kind.if-kind-eq-IMPLIES.false,
-      s.requires.2,
-    )
+put_quotation-requires c = (
+  own_quoting _ _ c.requires.0 c.args.i c.requires.1 _ c.cell_at-kind.ensures c.if-kind-eq-TRUE.false
+      c.if-kind-eq-NAME.false c.if-kind-eq-AND.false c.if-kind-eq-IMPLIES.false,
+  c.requires.2,
+)
 
 pub returns : goal.returns
 returns c =
-    let kind = c in
-    let cell = kind in
-    let s = cell in
     some_as
-    (own_told _ _ s.requires.0 s.args.i s.requires.1 _ cell.cell_at-kind.ensures kind.if-kind-eq-TRUE.false
-    kind.if-kind-eq-NAME.false kind.if-kind-eq-AND.false kind.if-kind-eq-IMPLIES.false)
+    (own_told _ _ c.requires.0 c.args.i c.requires.1 _ c.cell_at-kind.ensures c.if-kind-eq-TRUE.false
+    c.if-kind-eq-NAME.false c.if-kind-eq-AND.false c.if-kind-eq-IMPLIES.false)
     c.put_quotation.ensures

@@ -8,32 +8,20 @@ use Rattle.wording.proofs.put_quotation.Goals as goal
 
 pub put_some-requires : goal.put_some-requires
 put_some-requires c =
-    let behind = c in
-    (some_ends behind.put_some-behind.ensures behind.requires.1).0
+    (some_ends c.put_some-behind.ensures c.requires.1).0
 
 pub returns-then-spoken : goal.returns-then-spoken
 unfolding said_word bytes
 returns-then-spoken c =
-    let word = c in
-    let spoken = word in
-    let behind = spoken in
-    let whose = behind in
-    let s = whose in
-    put_told s.args.spoken whose.principal_of-principal.ensures (sym (ap said_word spoken.if-spoken.true)) behind.put_some-behind.ensures word.put_some.ensures
-    s.requires.1
+    put_told c.args.spoken c.principal_of-principal.ensures (sym (ap said_word c.if-spoken.true)) c.put_some-behind.ensures c.put_some.ensures
+    c.requires.1
 
 pub put_some-requires-2 : goal.put_some-requires-2
 put_some-requires-2 c =
-    let behind = c in
-    (some_ends behind.put_some-behind.ensures behind.requires.1).0
+    (some_ends c.put_some-behind.ensures c.requires.1).0
 
 pub returns : goal.returns
 unfolding said_word bytes
 returns c =
-    let word = c in
-    let spoken = word in
-    let behind = spoken in
-    let whose = behind in
-    let s = whose in
-    put_told s.args.spoken whose.principal_of-principal.ensures (sym (ap said_word spoken.if-spoken.false)) behind.put_some-behind.ensures word.put_some-2.ensures
-    s.requires.1
+    put_told c.args.spoken c.principal_of-principal.ensures (sym (ap said_word c.if-spoken.false)) c.put_some-behind.ensures c.put_some-2.ensures
+    c.requires.1

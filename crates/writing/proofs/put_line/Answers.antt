@@ -1,6 +1,6 @@
 -- `writing::put_line` meets its contract: its five parts are put one behind the other.
 use native.Mathlib.Omega.{arith}
-use Prim.Native.Nat.{◌+◌, ◌≤◌}
+use Prim.Native.Nat.{◌+◌}
 use lib.ListN.{length}
 use Rattle.writing.proofs.Placing.{put_room}
 use Rattle.writing.proofs.Decimal.{length_decimal}
@@ -9,30 +9,28 @@ use Rattle.writing.proofs.put_line.Goals as goal
 
 pub put-after_space-requires : goal.put-after_space-requires
 put-after_space-requires c =
-    let room₁ : c.put_decimal-after_count.result + (12 + length c.args.behind.now) ≤ length c.put_decimal-after_count.new.out = put_room c.put_decimal-after_count.ensures 20 (12 + length c.args.behind.now) (length_decimal _) (omega arith) in
+    let room₁ = put_room c.put_decimal-after_count.ensures 20 (12 + length c.args.behind.now) (length_decimal _) (omega arith) in
     omega (arith, room₁)
 
 pub put_word-after_word-requires : goal.put_word-after_word-requires
 put_word-after_word-requires c =
-    let room₁ : c.put_decimal-after_count.result + (12 + length c.args.behind.now) ≤ length c.put_decimal-after_count.new.out = put_room c.put_decimal-after_count.ensures 20 (12 + length c.args.behind.now) (length_decimal _) (omega arith) in
-    let room₂ : c.put-after_space.result + (11 + length c.args.behind.now) ≤ length c.put-after_space.new.out = put_room c.put-after_space.ensures 1 _ (omega arith) (omega (arith, room₁)) in
+    let room₁ = put_room c.put_decimal-after_count.ensures 20 (12 + length c.args.behind.now) (length_decimal _) (omega arith) in
+    let room₂ = put_room c.put-after_space.ensures 1 (11 + length c.args.behind.now) (omega arith) (omega (arith, room₁)) in
     omega (arith, room₂)
 
 pub put-after_behind-requires : goal.put-after_behind-requires
 put-after_behind-requires c =
-    let room₁ : c.put_decimal-after_count.result + (12 + length c.args.behind.now) ≤ length c.put_decimal-after_count.new.out = put_room c.put_decimal-after_count.ensures 20 (12 + length c.args.behind.now) (length_decimal _) (omega arith) in
-    let room₂ : c.put-after_space.result + (11 + length c.args.behind.now) ≤ length c.put-after_space.new.out = put_room c.put-after_space.ensures 1 _ (omega arith) (omega (arith, room₁)) in
-    let room₃ : c.put_word-after_word.result + (7 + length c.args.behind.now)
-    ≤ length c.put_word-after_word.new.out = put_room c.put_word-after_word.ensures 4 _ (length_word _) (omega (arith, room₂)) in
+    let room₁ = put_room c.put_decimal-after_count.ensures 20 (12 + length c.args.behind.now) (length_decimal _) (omega arith) in
+    let room₂ = put_room c.put-after_space.ensures 1 (11 + length c.args.behind.now) (omega arith) (omega (arith, room₁)) in
+    let room₃ = put_room c.put_word-after_word.ensures 4 (7 + length c.args.behind.now) (length_word _) (omega (arith, room₂)) in
     omega (arith, room₃)
 
 pub put-requires : goal.put-requires
 put-requires c =
-    let room₁ : c.put_decimal-after_count.result + (12 + length c.args.behind.now) ≤ length c.put_decimal-after_count.new.out = put_room c.put_decimal-after_count.ensures 20 (12 + length c.args.behind.now) (length_decimal _) (omega arith) in
-    let room₂ : c.put-after_space.result + (11 + length c.args.behind.now) ≤ length c.put-after_space.new.out = put_room c.put-after_space.ensures 1 _ (omega arith) (omega (arith, room₁)) in
-    let room₃ : c.put_word-after_word.result + (7 + length c.args.behind.now)
-    ≤ length c.put_word-after_word.new.out = put_room c.put_word-after_word.ensures 4 _ (length_word _) (omega (arith, room₂)) in
-    let room₄ : c.put-after_behind.result + 7 ≤ length c.put-after_behind.new.out = put_room c.put-after_behind.ensures (length c.args.behind.now)
+    let room₁ = put_room c.put_decimal-after_count.ensures 20 (12 + length c.args.behind.now) (length_decimal _) (omega arith) in
+    let room₂ = put_room c.put-after_space.ensures 1 (11 + length c.args.behind.now) (omega arith) (omega (arith, room₁)) in
+    let room₃ = put_room c.put_word-after_word.ensures 4 (7 + length c.args.behind.now) (length_word _) (omega (arith, room₂)) in
+    let room₄ = put_room c.put-after_behind.ensures (length c.args.behind.now)
     7 (omega arith) (omega (arith, room₃)) in
     omega (arith, room₄)
 

@@ -13,17 +13,12 @@ cell_at-first-requires c = record { inside = (omega arith, c.requires.end_reads.
 
 pub returns-then-kind-gt-IMPLIES : goal.returns-then-kind-gt-IMPLIES
 returns-then-kind-gt-IMPLIES c =
-    let s = c in
-    let at = c in
-    c.cell_at-first.ensures ∙ end_quoted s.args.nodes.now s.args.i (omega (arith, at.cell_at-kind.ensures)) (omega (arith, at.cell_at-kind.ensures))
+    c.cell_at-first.ensures ∙ end_quoted c.args.nodes.now c.args.i (omega (arith, c.cell_at-kind.ensures)) (omega (arith, c.cell_at-kind.ensures))
 
 pub cell_at-requires : goal.cell_at-requires
 cell_at-requires c =
-    let s = c in
-    let at = c in record { inside = (omega arith, omega (arith, c.cell_at-first.ensures, s.requires.end_reads.second (omega (arith, at.cell_at-kind.ensures)) (omega (arith, at.cell_at-kind.ensures)))); whole = s.requires.whole }
+    record { inside = (omega arith, omega (arith, c.cell_at-first.ensures, c.requires.end_reads.second (omega (arith, c.cell_at-kind.ensures)) (omega (arith, c.cell_at-kind.ensures)))); whole = c.requires.whole }
 
 pub returns : goal.returns
 returns c =
-    let s = c in
-    let at = c in
-    c.cell_at.ensures ∙ ap (node_cell s.args.nodes.now 3) c.cell_at-first.ensures ∙ end_parts s.args.nodes.now s.args.i (omega (arith, at.cell_at-kind.ensures)) (omega (arith, at.cell_at-kind.ensures))
+    c.cell_at.ensures ∙ ap (node_cell c.args.nodes.now 3) c.cell_at-first.ensures ∙ end_parts c.args.nodes.now c.args.i (omega (arith, c.cell_at-kind.ensures)) (omega (arith, c.cell_at-kind.ensures))

@@ -8,24 +8,19 @@ loop-i-init c = above_begin c.args.nodes.now c.args.count c.requires
 
 pub hand_down-requires : goal.hand_down-requires
 hand_down-requires c =
-    let s = c in record { inside = down_here s.args.nodes.now s.args.count s.requires c.loop-i.nodes c.loop-i.i c.loop-i.invariant (omega arith); whole = c.loop-i.invariant.long; end_reads = forth_reads s.args.nodes.now s.args.count s.requires c.loop-i.nodes c.loop-i.i c.loop-i.invariant (omega arith); depth_fits = forth_depth s.args.nodes.now s.args.count s.requires c.loop-i.nodes c.loop-i.i c.loop-i.invariant (omega arith) }
+    record { inside = down_here c.args.nodes.now c.args.count c.requires c.loop-i.nodes c.loop-i.i c.loop-i.invariant (omega arith); whole = c.loop-i.invariant.long; end_reads = forth_reads c.args.nodes.now c.args.count c.requires c.loop-i.nodes c.loop-i.i c.loop-i.invariant (omega arith); depth_fits = forth_depth c.args.nodes.now c.args.count c.requires c.loop-i.nodes c.loop-i.i c.loop-i.invariant (omega arith) }
 
 pub overflow_add-i : goal.overflow_add-i
 overflow_add-i c =
-    let s = c in
-    let at = c in
-    omega (arith, down_here s.args.nodes.now s.args.count s.requires at.loop-i.nodes at.loop-i.i at.loop-i.invariant (omega arith))
+    omega (arith, down_here c.args.nodes.now c.args.count c.requires c.loop-i.nodes c.loop-i.i c.loop-i.invariant (omega arith))
 
 pub loop-i-smaller : goal.loop-i-smaller
 loop-i-smaller c = omega arith
 
 pub loop-i-preserved : goal.loop-i-preserved
 loop-i-preserved c =
-    let s = c in
-    let at = c in
-    forth_turn s.args.nodes.now s.args.count s.requires at.loop-i.nodes at.loop-i.i at.loop-i.invariant (omega arith) c.hand_down.new.nodes c.hand_down.ensures c.hand_down.auto.nodes
+    forth_turn c.args.nodes.now c.args.count c.requires c.loop-i.nodes c.loop-i.i c.loop-i.invariant (omega arith) c.hand_down.new.nodes c.hand_down.ensures c.hand_down.auto.nodes
 
 pub returns : goal.returns
 returns c =
-    let s = c in
-    above_over s.args.nodes.now s.args.count c.loop-i.nodes c.loop-i.i c.loop-i.invariant (omega arith)
+    above_over c.args.nodes.now c.args.count c.loop-i.nodes c.loop-i.i c.loop-i.invariant (omega arith)
