@@ -4,9 +4,9 @@ use Prim.Native.Nat.{ℕ}
 use mathlib.Core.Path.{◌≡◌, sym, ◌∙◌}
 use mathlib.Core.List.{List}
 use lib.ListN.{length}
-use Rattle.infon.specs.declared.Verdict.{Verdict}
-use Rattle.infon.specs.declared.Verdict.TheVariants.{Passed, Refused}
-use Rattle.infon.specs.Codes.{tried}
+use Rattle.std.specs.Prelude.{Result, Err}
+use Rattle.infon.specs.declared.Refusal.{Refusal}
+use Rattle.infon.specs.Codes.{tried, Verdict, passed}
 use Rattle.infon.specs.Policy.{entries_of}
 use Rattle.infon.specs.Run.{file_verdict}
 use Rattle.nodes.specs.Nodes.{node_table}
@@ -19,10 +19,10 @@ use Rattle.accept.specs.Accepted.{NodesAfter, Accepts}
 
 nodes_by : (v : Verdict) (file before one two : List ℕ) → length before ≡ node_table → NodesAfter v file before one → NodesAfter v file before two
     → one ≡ two
-nodes_by Passed file before one two long first second = noded_once file before long one two first second
-nodes_by (Refused code place) file before one two long first second = first ∙ sym second
+nodes_by passed file before one two long first second = noded_once file before long one two first second
+nodes_by (Err by) file before one two long first second = first ∙ sym second
 
-pub accepts_once : {file nodes table queries nodes₁ table₁ queries₁ nodes₂ table₂ queries₂ : List ℕ} {r s : Accepted} → length nodes ≡ node_table
+pub accepts_once : {file nodes table queries nodes₁ table₁ queries₁ nodes₂ table₂ queries₂ : List ℕ} {r s : Result Accepted Refusal} → length nodes ≡ node_table
     → length table ≡ table_cells → Accepts file nodes table queries r nodes₁ table₁ queries₁
     → Accepts file nodes table queries s nodes₂ table₂ queries₂
     → (r ≡ s) × ((nodes₁ ≡ nodes₂) × ((table₁ ≡ table₂) × (queries₁ ≡ queries₂)))

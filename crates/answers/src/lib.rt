@@ -8,6 +8,7 @@ ghost use Rattle.answers.specs.Answered.{Answerable, answer_at, answered_bytes};
 use infon::Answer;
 
 // Yes: recorded. No is said only of a finished journal: before that, a missing record may still come.
+#[tactic(auto, unfolding(infon::specs::Run::answer_of))]
 pub fn answer_of(recorded: bool, finished: bool) -> Answer
     ensures { result ≡ answer_of recorded finished }
 {
@@ -17,7 +18,8 @@ pub fn answer_of(recorded: bool, finished: bool) -> Answer
     if finished { Answer::No } else { Answer::Open }
 }
 
-// The byte that stands for an answer.
+// The byte that stands for an answer; a byte that others read hangs on no order of declaration, so it is no `as u8`.
+#[tactic(auto, unfolding(infon::specs::Run::answer_byte))]
 pub fn byte_of(answer: Answer) -> u8
     ensures { result ≡ answer_byte answer }
 {
@@ -29,6 +31,7 @@ pub fn byte_of(answer: Answer) -> u8
 }
 
 // The byte that answers a query, by its formula's number.
+#[tactic(auto, unfolding(crate::specs::Answered::answer_at))]
 fn answer_at(marks: &[u8], finished: bool, number: usize) -> u8
     requires { number < length marks.now }
     ensures { result ≡ answer_at marks.now finished number }
@@ -37,14 +40,11 @@ fn answer_at(marks: &[u8], finished: bool, number: usize) -> u8
 }
 
 // The byte that answers each query, given by its formula's number, in the file's order.
-pub fn answer_all(queries: &[u16], asked: usize, marks: &[u8], finished: bool, answers: &mut [u8])
-    requires { Answerable queries.now asked marks.now answers.old }
-    ensures { answers.new ≡ written answers.old 0 (answered_bytes queries.now asked marks.now finished) }
+pub fn answer_all(queries: &[u16], marks: &[u8], finished: bool, answers: &mut [u8])
+    requires { Answerable queries.now marks.now answers.old }
+    ensures { answers.new ≡ written answers.old 0 (answered_bytes queries.now marks.now finished) }
 {
-    let mut i = 0;
-    while i < asked {
-        let number = queries[i] as usize;
-        answers[i] = answer_at(marks, finished, number);
-        i += 1;
+    for (i, number) in queries.iter().enumerate() {
+        answers[i] = answer_at(marks, finished, usize::from(*number));
     }
 }

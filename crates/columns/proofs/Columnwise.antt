@@ -6,15 +6,30 @@ use native.Mathlib.Omega.{arith}
 use mathlib.Core.Path.{◌≡◌, refl, ◌∙◌, ap}
 use mathlib.Core.Logic.{⊎_elim}
 use mathlib.Core.Bool.{true, false}
-use mathlib.Core.List.{List}
-use lib.ListN.{length}
+use mathlib.Core.List.{List, [], ◌∷◌}
+use lib.ListN.{length, get_or}
 use lib.Seq.{get_or-set_same, get_or-set_other}
 use lib.Dec.{ltb}
 use borrow.Author.Tests.{ltb-true, ltb-false}
-use Rattle.infon.proofs.Rows.{decided}
+use Rattle.std.proofs.lemmas.Bool.{cases_Bool}
+use Rattle.formulas.specs.declared.Column.{Column}
+use Rattle.formulas.specs.declared.Column.TheVariants.{Kind, Puts, Left, Right, Bottom, Hypothesis, Base}
+use Rattle.formulas.specs.Columns.{column_number}
 use Rattle.formulas.specs.Table.{table_rows, table_columns, table_cells, cell}
 use Rattle.columns.specs.Columns.{column_of, with_column, filled_to, filled}
 use Rattle.columns.proofs.Steps.{column_length}
+
+-- the columns stand in the order of their numbers
+pub in_order : (k : ℕ) (d : Column) → k < table_columns
+    → column_number (get_or (Kind ∷ (Puts ∷ (Left ∷ (Right ∷ (Bottom ∷ (Hypothesis ∷ (Base ∷ []))))))) k d) ≡ k
+in_order zero d h = refl
+in_order (suc zero) d h = refl
+in_order (suc (suc zero)) d h = refl
+in_order (suc (suc (suc zero))) d h = refl
+in_order (suc (suc (suc (suc zero)))) d h = refl
+in_order (suc (suc (suc (suc (suc zero))))) d h = refl
+in_order (suc (suc (suc (suc (suc (suc zero)))))) d h = refl
+in_order (suc (suc (suc (suc (suc (suc (suc k))))))) d h = absurd (omega arith)
 
 module _ (column : ℕ) (f : ℕ → ℕ) (before : List ℕ) where
   pub column_other : (n k i : ℕ) → n ≤ table_rows → i < table_rows → (k ≡ column → n ≤ i)
@@ -45,7 +60,7 @@ module _ (column : ℕ) (f : ℕ → ℕ) (before : List ℕ) where
       let e : i ≡ n = omega (arith, ltb-false i n more) in
       rw e
       (get_or-set_same (with_column column f n before) (column * table_rows + n) (f n) 0 (omega (arith, column_length column f n before))))
-      (decided (ltb i n))
+      (cases_Bool (ltb i n))
 
 -- The table that `fill_columns` leaves, column by column.
 module _ (t cand keys owners : List ℕ) (n : ℕ) (table : List ℕ) where
@@ -82,7 +97,7 @@ module _ (t cand keys owners : List ℕ) (n : ℕ) (table : List ℕ) where
       (λ (more : ltb k c ≡ false).
       let e : k ≡ c = omega (arith, ltb-false k c more) in
       rw e (column_cell c (column c) (up_to c) n i few (omega (arith, length_to c)) h))
-      (decided (ltb k c))
+      (cases_Bool (ltb k c))
 
   others_to : (c k i : ℕ) → i < table_rows → n ≤ i → cell (up_to c) k i ≡ cell table k i
   unfolding filled_to

@@ -1,8 +1,8 @@
 -- The columns of the formula table, worked out of the node table and three tables of numbers: which form each formula was first
 -- listed as (`owners`), its key, and the number of every form (`cand`). Form number m of node b stands at b * stride + m.
-use Rattle.std.specs.Prelude.{ℕ, zero, suc, ◌+◌, ◌*◌, ◌-◌, ◌/◌, ◌%◌, ◌≤◌, ◌<◌, cond, List, length, get_or, ltb, eqb}
-use Rattle.nodes.specs.Nodes.{node_at, count_nodes, nodes_of, node_cell, node_end, NodesHeld, node_rows, node_kind}
-use Rattle.formulas.specs.Table.{table_rows, table_columns, table_cells, with_cell}
+use Rattle.std.specs.Prelude.{ℕ, zero, suc, ◌+◌, ◌*◌, ◌-◌, ◌/◌, ◌%◌, ◌≤◌, ◌<◌, cond, List, get_or, ltb, eqb}
+use Rattle.nodes.specs.Nodes.{node_at, count_nodes, nodes_of, node_cell, node_end, node_rows, node_kind}
+use Rattle.formulas.specs.Table.{table_rows, table_columns, with_cell}
 use Rattle.prefix.specs.Places.{used, prefix_at, weaker_count_of}
 use Rattle.prefix.specs.Weaker.{weaker_count}
 
@@ -75,27 +75,16 @@ filled_to (suc k) t cand keys owners n table = with_column k (column_of t cand k
 unfoldable pub filled : List ℕ → List ℕ → List ℕ → List ℕ → ℕ → List ℕ → List ℕ
 filled t cand keys owners n table = filled_to table_columns t cand keys owners n table
 
--- form m of node b, of some file whose node table this is
+-- form m of node b
 abbrev pub IsForm : List ℕ → ℕ → ℕ → Type 0
-IsForm t b m = (file : List ℕ) × (NodesHeld file t × ((b < count_nodes (nodes_of file)) × (m < weaker_count (node_at (nodes_of file) b).pre)))
+IsForm file b m = (b < count_nodes (nodes_of file)) × (m < weaker_count (node_at (nodes_of file) b).pre)
 
--- the form of a base as which a formula was first listed, of some file whose node table this is
-abbrev pub IsOwner : List ℕ → List ℕ → ℕ → Type 0
-IsOwner t owners i =
-    IsForm t (get_or owners i 0 / stride) (get_or owners i 0 % stride) × (node_cell t node_kind (get_or owners i 0 / stride) < 4)
+-- the form of a base as which a formula was first listed
+abbrev pub IsOwner : List ℕ → List ℕ → List ℕ → ℕ → Type 0
+IsOwner file t owners i =
+    IsForm file (get_or owners i 0 / stride) (get_or owners i 0 % stride) × (node_cell t node_kind (get_or owners i 0 / stride) < 4)
 
--- what is asked where one formula is looked at, and where the first n are
-pub record Owner (t cand owners : List ℕ) (i : ℕ) : Type 0 where
-  pub inside : i < length owners
-  pub owner : IsOwner t owners i
-  pub cand_long : node_rows * stride ≤ length cand
-
-pub record Owners (t owners : List ℕ) (n : ℕ) : Type 0 where
-  pub inside : n ≤ length owners
+-- what is asked where the first n formulas are looked at
+pub record Owners (file t owners : List ℕ) (n : ℕ) : Type 0 where
   pub few : n ≤ table_rows
-  pub owned : (i : ℕ) → i < n → IsOwner t owners i
-
-pub record Room (t cand owners table : List ℕ) (n : ℕ) : Type 0 where
-  pub owners_are : Owners t owners n
-  pub cand_long : node_rows * stride ≤ length cand
-  pub table_long : table_cells ≤ length table
+  pub owned : (i : ℕ) → i < n → IsOwner file t owners i

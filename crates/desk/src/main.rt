@@ -7,7 +7,6 @@ ghost use Rattle.writing.specs.Placed.{Prints};
 ghost use Rattle.settling.specs.Settled.{text_bytes};
 ghost use Rattle.desk.specs.Desk.{desk_text};
 
-use input::Got;
 use settling::{EVERY_RECORD, JOURNAL_BYTES, TEXT_BYTES};
 use std::io;
 use std::process::ExitCode;
@@ -32,8 +31,8 @@ fn fails(rt: &impl Eprint, what: &str, why: io::Error) -> ExitCode {
 fn main(rt: HostRuntime) -> ExitCode {
     let mut file = [0u8; 32769];
     let n = match input::read_all(&mut rt.stdin(), &mut file) {
-        Got::Bytes(n) => n,
-        Got::Failed(why) => return fails(&rt, "standard input", why),
+        Ok(n) => n,
+        Err(why) => return fails(&rt, "standard input", why),
     };
     let mut text = [0u8; TEXT_BYTES];
     let length = answer(&file[..n], &mut text);

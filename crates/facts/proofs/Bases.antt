@@ -3,15 +3,18 @@
 use Prim.Native.Nat.{ℕ, suc, ◌+◌, ◌≤◌, ◌<◌}
 use native.Mathlib.Omega.{arith}
 use mathlib.Core.Path.{◌≡◌, refl, sym, ◌∙◌, ap, subst}
+use mathlib.Core.Bool.{Bool, true, false, false≢true}
 use mathlib.Core.List.{List, ◌∷◌}
-use Rattle.infon.specs.Formula.{Quotation, Formula, True, name, and, implies, quoted}
+use Rattle.infon.specs.Formula.{Told, said, put, Quotation, Formula, True, name, and, implies, quoted}
 use Rattle.infon.specs.Listing.{Prefix}
 use Rattle.infon.specs.Rules.{prefix_under, core_of}
 use Rattle.nodes.specs.Nodes.{Node, inner, node_at, count_nodes, nodes_of, kind_of, node_cell, node_kind, NodesHeld}
 use Rattle.nodes.proofs.Order.{quoted_inner, quoted_high}
 use Rattle.prefix.proofs.Shown.{kind_cell}
 use Rattle.prefix.proofs.Inside.{kind_quoted, inside_below}
-use Rattle.facts.specs.OneLine.{quotations, base_of}
+use Rattle.nodes.specs.declared.Kind.{Kind}
+use Rattle.nodes.specs.Columns.{kind_by}
+use Rattle.facts.specs.OneLine.{quotations, base_of, is_quotation}
 
 -- One quotation further in.
 module _ (row : List Node) (r : ℕ) (h : r < count_nodes row) (q : Quotation) (x : Formula) (e : (node_at row r).what ≡ quoted q x) where
@@ -73,34 +76,46 @@ pub record Inwards (row : List Node) (r i : ℕ) : Type 0 where
   pub below : i < count_nodes row
   pub base : base_of row i ≡ base_of row r
 
-no_quotations : (x : Formula) → kind_of x < 4 → quotations x ≡ 0
+-- a quotation's kind is 4 or 5
+high_kind : (x : Formula) → is_quotation (kind_by (kind_of x)) ≡ true → 4 ≤ kind_of x
+unfolding is_quotation kind_of
+high_kind True e = absurd (false≢true e)
+high_kind (name a) e = absurd (false≢true e)
+high_kind (and x y) e = absurd (false≢true e)
+high_kind (implies x y) e = absurd (false≢true e)
+high_kind (quoted q x) e = quoted_high q x
+
+quoted_kind_of : (told : Told) (p : List ℕ) (x : Formula) → is_quotation (kind_by (kind_of (quoted (record { told = told; principal = p }) x))) ≡ true
+unfolding is_quotation kind_of
+quoted_kind_of said p x = refl
+quoted_kind_of put p x = refl
+
+no_quotations : (x : Formula) → is_quotation (kind_by (kind_of x)) ≡ false → quotations x ≡ 0
 unfolding quotations
-no_quotations True low = refl
-no_quotations (name a) low = refl
-no_quotations (and x y) low = refl
-no_quotations (implies x y) low = refl
-no_quotations (quoted q x) low = absurd (omega (arith, quoted_high q x))
+no_quotations True e = refl
+no_quotations (name a) e = refl
+no_quotations (and x y) e = refl
+no_quotations (implies x y) e = refl
+no_quotations (quoted q x) e = absurd (false≢true (sym e ∙ quoted_kind_of q.told q.principal x))
 
-pub inwards_begin : (row : List Node) (r : ℕ) → r < count_nodes row → Inwards row r r
-inwards_begin row r h = record { below = h; base = refl }
+module _ (file t : List ℕ) (held : NodesHeld file t) (r i : ℕ) (so : Inwards (nodes_of file) r i) {found : Bool} {kind : Kind}
+    (e : kind ≡ kind_by (node_cell t node_kind i)) (f : found ≡ is_quotation kind) where
+  found_is : found ≡ is_quotation (kind_by (kind_of (node_at (nodes_of file) i).what))
+  found_is = f ∙ ap is_quotation (e ∙ ap kind_by (kind_cell file t held i so.below))
 
-module _ (file t : List ℕ) (held : NodesHeld file t) (r i kind : ℕ) (so : Inwards (nodes_of file) r i) (e : kind ≡ node_cell t node_kind i) where
-  kind_is : kind ≡ kind_of (node_at (nodes_of file) i).what
-  kind_is = e ∙ kind_cell file t held i so.below
-
-  pub inwards_on : 4 ≤ kind → Inwards (nodes_of file) r (i + 1)
-  inwards_on high =
-      let found = kind_quoted (node_at (nodes_of file) i).what (subst (λ (k : ℕ). 4 ≤ k) kind_is high) in
+  pub inwards_on : found ≡ true → Inwards (nodes_of file) r (i + 1)
+  inwards_on here =
+      let quotation = kind_quoted (node_at (nodes_of file) i).what (high_kind (node_at (nodes_of file) i).what (sym found_is ∙ here)) in
       let next : i + 1 ≡ suc i = omega arith in
       rw next
       (record {
-        below = step_below (nodes_of file) i so.below found.0 found.1.0 found.1.1;
-        base = step_base (nodes_of file) i so.below found.0 found.1.0 found.1.1 ∙ so.base;
+        below = step_below (nodes_of file) i so.below quotation.0 quotation.1.0 quotation.1.1;
+        base = step_base (nodes_of file) i so.below quotation.0 quotation.1.0 quotation.1.1 ∙ so.base;
       })
 
-  pub inwards_over : kind < 4 → i ≡ base_of (nodes_of file) r
+  pub inwards_over : found ≡ false → i ≡ base_of (nodes_of file) r
   unfolding base_of
-  inwards_over low =
-      let none = no_quotations (node_at (nodes_of file) i).what (subst (λ (k : ℕ). k < 4) kind_is low) in
+  inwards_over none_here =
+      let none = no_quotations (node_at (nodes_of file) i).what (sym found_is ∙ none_here) in
       let base : i + quotations (node_at (nodes_of file) i).what ≡ base_of (nodes_of file) r = so.base in
       omega arith

@@ -8,10 +8,10 @@ use mathlib.Core.List.{List, []}
 use lib.ListN.{get_or}
 use lib.Dec.{eqb}
 use borrow.Author.Tests.{eq-eqb, eqb-true, ne_eqb}
+use Rattle.std.proofs.lemmas.Bool.{false_from_ne_true}
 use Rattle.infon.specs.Formula.{Formula, same}
 use Rattle.infon.specs.Listing.{Prefix, wrap}
 use Rattle.infon.specs.Rules.{prefix_under, core_of}
-use Rattle.infon.proofs.Rows.{not_true_false}
 use Rattle.infon.proofs.Same.{same_refl, same_eq}
 use Rattle.infon.proofs.Prefixes.{wrap_core}
 use Rattle.formulas.specs.Table.{put_mask, all_put}
@@ -88,7 +88,7 @@ module _ (file t : List ℕ) (r b puts : ℕ) (asked : LineAsked file t r b puts
 
         pub no_twins : are_twins (node_at row i) (node_at row b) ≡ false → false ≡ fact_at file r x
         no_twins apart =
-            sym (fact_same ∙ not_true_false (same x y) (λ h. true≢false (sym (same_twins (same_eq x y h)) ∙ apart)))
+            sym (fact_same ∙ false_from_ne_true (same x y) (λ h. true≢false (sym (same_twins (same_eq x y h)) ∙ apart)))
 
         pub twins_puts : are_twins (node_at row i) (node_at row b) ≡ true → eqb (puts_of (used (prefix_at t i))) puts ≡ fact_at file r x
         twins_puts twins =

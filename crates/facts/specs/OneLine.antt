@@ -1,8 +1,10 @@
 -- One line: the base of its formula, and whether it says a formula as a fact, both by the number of the node that its formula begins with.
-use Rattle.std.specs.Prelude.{ℕ, suc, ◌+◌, ◌<◌, ◌≡◌, Bool, ◌&&◌, List, [], length, get_or, eqb}
+use Rattle.std.specs.Prelude.{ℕ, suc, ◌+◌, ◌<◌, ◌≡◌, Bool, true, false, ◌&&◌, List, [], length, get_or, eqb}
 use Prim.Native.Char.{code}
 use Rattle.infon.specs.Formula.{Formula, True, name, and, implies, quoted, same}
-use Rattle.nodes.specs.Nodes.{Node, node_at, count_nodes, nodes_of, NodesHeld}
+use Rattle.nodes.specs.Nodes.{Node, node_at, count_nodes, nodes_of}
+use Rattle.nodes.specs.declared.Kind.{Kind}
+use Rattle.nodes.specs.declared.Kind.TheVariants as Of
 use Rattle.prefix.specs.Told.{ToldBy}
 
 -- how many quotations a formula begins with; the base behind those that node r begins with
@@ -16,11 +18,14 @@ quotations (quoted q x) = suc (quotations x)
 unfoldable pub base_of : List Node → ℕ → ℕ
 base_of row r = r + quotations (node_at row r).what
 
--- the table is a file's, and has node r
-pub record IsNode (t : List ℕ) (r : ℕ) : Type 0 where
-  pub file : List ℕ
-  pub held : NodesHeld file t
-  pub below : r < count_nodes (nodes_of file)
+-- the kinds of quotations
+unfoldable pub is_quotation : Kind → Bool
+is_quotation Of.True = false
+is_quotation Of.Name = false
+is_quotation Of.And = false
+is_quotation Of.Implies = false
+is_quotation Of.Said = true
+is_quotation Of.Put = true
 
 -- the letter of the line is `H`, and the formula that begins at node r is the same
 unfoldable pub fact_at : List ℕ → ℕ → Formula → Bool

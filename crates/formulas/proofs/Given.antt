@@ -17,7 +17,7 @@ use Rattle.infon.specs.Formula.{Formula}
 use Rattle.infon.specs.Listing.{is_listed}
 use Rattle.infon.specs.Rules.{Shape, truth, primitive, conjunction, implication, shape_of, is_truth, is_left, is_right, are_both, is_conclusion, is_condition, weakenings, numbered, gives}
 use Rattle.infon.specs.Journal.{is_recorded, premises_in, is_good}
-use Rattle.infon.proofs.Rows.{decided, and_true}
+use Rattle.std.proofs.lemmas.Bool.{cases_Bool, and_parts}
 use Rattle.infon.proofs.Least.{PremisesBelow}
 use Rattle.formulas.specs.Table.{flag, bottom_of, shape_kind, left_number, right_number, cell_of, cell, parts_listed, Tabled, Marked}
 use Rattle.formulas.specs.Tests.{gives_in, is_marked, premises_marked, leads_to, good_in, RecordsBelow, Held}
@@ -43,7 +43,7 @@ module _ (fs : List Formula) (once : (i j : ℕ) → i < length fs → j < lengt
   left_kind truth f h parts = refl
   left_kind primitive f h parts = refl
   left_kind (conjunction l r) f h parts =
-      same_number fs once f l h (and_true (is_listed l fs) (is_listed r fs) parts).0
+      same_number fs once f l h (and_parts (is_listed l fs) (is_listed r fs) parts).0
   left_kind (implication l r) f h parts = refl
 
   right_kind : (s : Shape) (f : ℕ) → f < length fs → parts_listed fs s ≡ true
@@ -52,7 +52,7 @@ module _ (fs : List Formula) (once : (i j : ℕ) → i < length fs → j < lengt
   right_kind truth f h parts = refl
   right_kind primitive f h parts = refl
   right_kind (conjunction l r) f h parts =
-      same_number fs once f r h (and_true (is_listed l fs) (is_listed r fs) parts).1
+      same_number fs once f r h (and_parts (is_listed l fs) (is_listed r fs) parts).1
   right_kind (implication l r) f h parts = refl
 
   both_kind : (s : Shape) (p q : ℕ) → p < length fs → q < length fs → parts_listed fs s ≡ true
@@ -61,7 +61,7 @@ module _ (fs : List Formula) (once : (i j : ℕ) → i < length fs → j < lengt
   both_kind truth p q hp hq parts = refl
   both_kind primitive p q hp hq parts = refl
   both_kind (conjunction l r) p q hp hq parts =
-      let listed = and_true (is_listed l fs) (is_listed r fs) parts in
+      let listed = and_parts (is_listed l fs) (is_listed r fs) parts in
       ap₂ ◌&&◌ (same_number fs once p l hp listed.0) (same_number fs once q r hq listed.1)
   both_kind (implication l r) p q hp hq parts = refl
 
@@ -73,7 +73,7 @@ module _ (fs : List Formula) (once : (i j : ℕ) → i < length fs → j < lengt
   apply_kind primitive p f hp hf parts = refl
   apply_kind (conjunction l r) p f hp hf parts = refl
   apply_kind (implication l r) p f hp hf parts =
-      let listed = and_true (is_listed l fs) (is_listed r fs) parts in
+      let listed = and_parts (is_listed l fs) (is_listed r fs) parts in
       ap₂ ◌&&◌ (same_number fs once p l hp listed.0) (same_number fs once f r hf listed.1)
 
   attach_kind : (s : Shape) (p : ℕ) → p < length fs → parts_listed fs s ≡ true
@@ -83,7 +83,7 @@ module _ (fs : List Formula) (once : (i j : ℕ) → i < length fs → j < lengt
   attach_kind primitive p hp parts = refl
   attach_kind (conjunction l r) p hp parts = refl
   attach_kind (implication l r) p hp parts =
-      same_number fs once p r hp (and_true (is_listed l fs) (is_listed r fs) parts).1
+      same_number fs once p r hp (and_parts (is_listed l fs) (is_listed r fs) parts).1
 
 module _ (hyps fs : List Formula) (t : List ℕ) (tabled : Tabled hyps fs t) where
   column : (k i : ℕ) → k < 6 → i < length fs → cell t k i ≡ cell_of k hyps fs (numbered fs i)
@@ -128,7 +128,7 @@ module _ (n : ℕ) (marks : List ℕ) (done : List Record) (marked : Marked n ma
       ⊎_elim
       (λ (h : ltb i n ≡ true). rw (h, marked.marked i (ltb-true i n h)) (flag_test (is_recorded i done)))
       (λ (h : ltb i n ≡ false). rw h (unrecorded (is_recorded i done) (below i) (ltb-false i n h)))
-      (decided (ltb i n))
+      (cases_Bool (ltb i n))
     where
       unrecorded : (b : Bool) → (b ≡ true → i < n) → n ≤ i → b ≡ false
       unrecorded true less more = absurd (let h = less refl in omega arith)
@@ -147,7 +147,7 @@ module _ (n : ℕ) (marks : List ℕ) (done : List Record) (marked : Marked n ma
 
 pub marked_below : (n : ℕ) (marks : List ℕ) (i : ℕ) → is_marked n marks i ≡ true → i < n
 unfolding is_marked
-marked_below n marks i h = ltb-true i n (and_true (ltb i n) (eqb (get_or marks i 0) 1) h).0
+marked_below n marks i h = ltb-true i n (and_parts (ltb i n) (eqb (get_or marks i 0) 1) h).0
 
 -- a good record is for a listed formula
 pub good_below : (t : List ℕ) (n : ℕ) (marks : List ℕ) (r : Record) → good_in t n marks r ≡ true → r.formula < n
@@ -155,7 +155,7 @@ unfolding good_in
 good_below t n marks r good =
     let listed = ltb r.formula n in
     let unmarked = not (is_marked n marks r.formula) in
-    ltb-true r.formula n (and_true listed unmarked (and_true (listed && unmarked) (leads_to t n marks r.formula r.way) good).0).0
+    ltb-true r.formula n (and_parts listed unmarked (and_parts (listed && unmarked) (leads_to t n marks r.formula r.way) good).0).0
 
 -- marked premises are below n
 pub premises_below : (n : ℕ) (marks : List ℕ) (way : Way) → premises_marked n marks way ≡ true → PremisesBelow n way
@@ -166,10 +166,10 @@ premises_below n marks (Weaken p) h = marked_below n marks p h
 premises_below n marks (Left p) h = marked_below n marks p h
 premises_below n marks (Right p) h = marked_below n marks p h
 premises_below n marks (Both p q) h =
-    let both = and_true (is_marked n marks p) (is_marked n marks q) h in
+    let both = and_parts (is_marked n marks p) (is_marked n marks q) h in
     (marked_below n marks p both.0, marked_below n marks q both.1)
 premises_below n marks (Apply p q) h =
-    let both = and_true (is_marked n marks p) (is_marked n marks q) h in
+    let both = and_parts (is_marked n marks p) (is_marked n marks q) h in
     (marked_below n marks p both.0, marked_below n marks q both.1)
 premises_below n marks (Attach p) h = marked_below n marks p h
 

@@ -1,7 +1,7 @@
 -- The number of a listed formula names that formula, and on a row that lists none twice equal formulas are equal numbers.
 -- Assumes nothing.
 use Prim.Native.Nat.{ℕ, suc, ◌<◌}
-use mathlib.Core.Path.{◌≡◌, refl, sym, ◌∙◌, ap, subst}
+use mathlib.Core.Path.{◌≡◌, sym, ◌∙◌, ap, subst}
 use mathlib.Core.Logic.{⊎_elim}
 use mathlib.Core.Bool.{Bool, true, false, false≢true}
 use mathlib.Core.List.{List, [], ◌∷◌}
@@ -13,7 +13,8 @@ use Rattle.infon.specs.Bytes.{some_of}
 use Rattle.infon.specs.Formula.{Formula, same}
 use Rattle.infon.specs.Listing.{is_listed}
 use Rattle.infon.specs.Rules.{numbered}
-use Rattle.infon.proofs.Rows.{decided}
+use Rattle.std.proofs.lemmas.Bool.{cases_Bool}
+use Rattle.std.proofs.lemmas.Bool.Decides.{same_from_decides}
 use Rattle.infon.proofs.Same.{same_refl, same_eq}
 use Rattle.infon.proofs.Prefixes.{mem_listed}
 use Rattle.infon.proofs.Listed.{numbered_mem}
@@ -21,9 +22,7 @@ use Rattle.formulas.specs.Table.{number_in}
 
 -- two tests that pass together are one
 pub same_test : (a b : Bool) → (a ≡ true → b ≡ true) → (b ≡ true → a ≡ true) → a ≡ b
-same_test true b there back = sym (there refl)
-same_test false true there back = back refl
-same_test false false there back = refl
+same_test a b there back = same_from_decides a b (there, back) (λ h. h, λ h. h)
 
 number_here : (y : Formula) (fs : List Formula) (x : Formula) → same x y ≡ true → number_in (y ∷ fs) x ≡ 0
 unfolding number_in
@@ -48,7 +47,7 @@ number_in_below (y ∷ fs) x h =
     (λ (e : same x y ≡ false).
     let later = number_in_below fs x (listed_later y fs x e h) in
     rw (number_later y fs x e) (omega arith))
-    (decided (same x y))
+    (cases_Bool (same x y))
 
 pub numbered_number_in : (fs : List Formula) (x : Formula) → is_listed x fs ≡ true → numbered fs (number_in fs x) ≡ x
 unfolding numbered
@@ -56,7 +55,7 @@ numbered_number_in [] x h = absurd (nothing_listed x h)
 numbered_number_in (y ∷ fs) x h =
     ⊎_elim (λ (e : same x y ≡ true). rw (number_here y fs x e) (sym (same_eq x y e)))
     (λ (e : same x y ≡ false). rw (number_later y fs x e) (numbered_number_in fs x (listed_later y fs x e h)))
-    (decided (same x y))
+    (cases_Bool (same x y))
 
 pub numbered_listed : (fs : List Formula) (i : ℕ) → i < length fs → is_listed (numbered fs i) fs ≡ true
 numbered_listed fs i h = mem_listed (numbered_mem fs i h)

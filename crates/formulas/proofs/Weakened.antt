@@ -14,7 +14,7 @@ use Rattle.infon.specs.Formula.{Told, said, put, Quotation, Formula, same}
 use Rattle.infon.specs.Listing.{Prefix, wrap, weakened, is_listed}
 use Rattle.infon.specs.Calculus.{Weaker, end, unchanged, lowered, said_by, put_by}
 use Rattle.infon.specs.Rules.{prefix_under, core_of, weakenings}
-use Rattle.infon.proofs.Rows.{and_true, true_and}
+use Rattle.std.proofs.lemmas.Bool.{and_parts, and_from}
 use Rattle.infon.proofs.Same.{same_refl, same_eq}
 use Rattle.infon.proofs.Prefixes.{listed_mem, mem_listed, wrap_core, prefix_core, core_core, prefix_wrap, core_wrap, mem_weakened, weakened_mem}
 use Rattle.formulas.specs.Table.{put_bit, put_mask, all_put, bottom_of}
@@ -152,7 +152,7 @@ pub weak_test : (a z : Formula) → is_listed z (weakenings a)
 weak_test a z =
     let test = eqb (bit_and (put_mask (prefix_under [] a)) (put_mask (prefix_under [] z))) (put_mask (prefix_under [] a)) in
     same_test (is_listed z (weakenings a)) (same (bottom_of a) (bottom_of z) && test)
-    (λ h. true_and (weak_bottom a z h) (eq-eqb _ _ (weak_mask a z h)))
+    (λ h. and_from _ _ (weak_bottom a z h) (eq-eqb _ _ (weak_mask a z h)))
     (λ h.
-    let both = and_true (same (bottom_of a) (bottom_of z)) test h in
+    let both = and_parts (same (bottom_of a) (bottom_of z)) test h in
     test_weak a z (same_eq (bottom_of a) (bottom_of z) both.0) (eqb-true _ _ both.1))

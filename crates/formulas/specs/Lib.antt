@@ -1,3 +1,4 @@
+pub mod Columns
+pub mod Prepared
 pub mod Table
 pub mod Tests
-pub mod Prepared

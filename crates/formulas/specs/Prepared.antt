@@ -1,7 +1,7 @@
 -- A list in the formula table, and the numbers of the queries beside it.
 use Rattle.std.specs.Prelude.{ℕ, ◌≤◌, ◌≡◌, true, length, take}
 use mathlib.Core.List.{List, map, Memᴰ}
-use Rattle.infon.specs.declared.Verdict.TheVariants.{Passed}
+use Rattle.infon.specs.Codes.{passed}
 use Rattle.infon.specs.Formula.{Formula}
 use Rattle.infon.specs.Policy.{entries_of, hypotheses_of, queries_of}
 use Rattle.infon.specs.Listing.{is_listed, list_of}
@@ -19,5 +19,5 @@ pub record Prepared (hyps fs queries : List Formula) (t : List ℕ) (n : ℕ) (n
 
 -- The file is accepted, and its list and queries are prepared so.
 pub record PreparedFor (file t : List ℕ) (n : ℕ) (numbers : List ℕ) (asked : ℕ) : Type 0 where
-  pub accepted : file_verdict file ≡ Passed
+  pub accepted : file_verdict file ≡ passed
   pub prepared : Prepared (hypotheses_of (entries_of file)) (list_of (entries_of file)) (queries_of (entries_of file)) t n numbers asked

@@ -2,7 +2,9 @@
 -- of the same set are the same.
 -- Assumes nothing.
 use Prim.Native.Nat.{ℕ, zero, suc, ◌+◌, ◌*◌, ◌/◌, ◌%◌, ◌^◌, ◌≤◌, ◌<◌}
-use mathlib.Core.Path.{◌≡◌, sym, ◌∙◌, ap}
+use mathlib.Core.Path.{◌≡◌, refl, sym, ◌∙◌, ap}
+use Rattle.std.proofs.lemmas.Bool.{cases_Bool}
+use Rattle.std.specs.Prelude.{Option, None, Some}
 use mathlib.Core.Logic.{⊎_elim}
 use mathlib.Core.Bool.{true, false, false≢true}
 use mathlib.Core.List.{List}
@@ -11,9 +13,8 @@ use lib.ListN.{length, get_or}
 use lib.Seq.{ext_get_or}
 use lib.Dec.{ltb, eqb}
 use borrow.Author.Tests.{eqb-true, eqb-false, ltb-true, ltb-false}
-use Rattle.infon.proofs.Rows.{decided}
-use Rattle.frontier.specs.declared.Next.{Next}
-use Rattle.members.specs.Members.{has_bit, is_in, LeastIn}
+use Rattle.infon.specs.declared.Record.{Record}
+use Rattle.members.specs.Members.{has_bit, is_in, LeastAt, LeastIn}
 use Rattle.frontier.specs.Found.{stop_of, Found}
 use Rattle.members.proofs.Bitwise.{power_half, power_even}
 
@@ -25,7 +26,7 @@ same_low a b lowA lowB same =
     let first = eqb-false a 1 (same ∙ e) in
     let second = eqb-false b 1 e in
     omega (arith, first, second))
-    (decided (eqb b 1))
+    (cases_Bool (eqb b 1))
 
 same_bits : (k w v : ℕ) → w < 2 ^ k → v < 2 ^ k → ((j : ℕ) → j < k → has_bit w j ≡ has_bit v j) → w ≡ v
 unfolding has_bit
@@ -53,23 +54,23 @@ same_sets one two fitsOne fitsTwo long same =
     same_bits 64 (get_or one at 0) (get_or two at 0) (fitsOne at) (fitsTwo at)
     (λ j low. sym (word_bit one at j low) ∙ (same (at * 64 + j) ∙ word_bit two at j low)))
 
-pub least_once : {cover : List ℕ} (one two : ℕ) → LeastIn cover one → LeastIn cover two → one ≡ two
-least_once {cover} one two first second =
-    let up_to : two ≤ one = bounded first second in
-    let back : one ≤ two = bounded second first in
-    omega arith
+pub least_once : (cover : List ℕ) (one two : Option ℕ) → LeastIn cover one → LeastIn cover two → one ≡ two
+least_once cover None None first second = refl
+least_once cover None (Some b) first second = absurd (false≢true (sym (first b second.inside) ∙ second.member))
+least_once cover (Some a) None first second = absurd (false≢true (sym (second a first.inside) ∙ first.member))
+least_once cover (Some a) (Some b) first second =
+    let up_to : b ≤ a = bounded first second in
+    let back : a ≤ b = bounded second first in
+    ap (λ (i : ℕ). Some i) (omega arith)
   where
-    bounded : {a b : ℕ} → LeastIn cover a → LeastIn cover b → b ≤ a
+    bounded : {a b : ℕ} → LeastAt cover a → LeastAt cover b → b ≤ a
     bounded {a} {b} is_a is_b =
         ⊎_elim
-        (λ (h : ltb a b ≡ true).
-        let less = ltb-true a b h in
-        let most = is_b.within in
-        absurd (false≢true (sym (is_b.before a less) ∙ is_a.member (omega arith))))
+        (λ (h : ltb a b ≡ true). absurd (false≢true (sym (is_b.before a (ltb-true a b h)) ∙ is_a.member)))
         (λ (h : ltb a b ≡ false). ltb-false a b h)
-        (decided (ltb a b))
+        (cases_Bool (ltb a b))
 
-pub found_once : {t : List ℕ} {n : ℕ} {marks before : List ℕ} {one two : Next} {afterOne afterTwo : List ℕ} → Words afterOne → Words afterTwo
+pub found_once : {t : List ℕ} {n : ℕ} {marks before : List ℕ} {one two : Option Record} {afterOne afterTwo : List ℕ} → Words afterOne → Words afterTwo
     → Found t n marks before one afterOne → Found t n marks before two afterTwo → (one ≡ two) × (afterOne ≡ afterTwo)
 found_once {t} {n} {marks} {before} {one} {two} {afterOne} {afterTwo} fitsOne fitsTwo first second =
     let same : one ≡ two = first.is_next ∙ sym second.is_next in
@@ -84,5 +85,5 @@ found_once {t} {n} {marks} {before} {one} {two} {afterOne} {afterTwo} fitsOne fi
           (λ (h : ltb i (stop_of n one) ≡ false).
           let more = ltb-false i (stop_of n one) h in
           first.stays i more ∙ sym (second.stays i (omega arith)))
-          (decided (ltb i (stop_of n one)))),
+          (cases_Bool (ltb i (stop_of n one)))),
     )

@@ -9,15 +9,15 @@ use mathlib.Core.List.{List, [], ◌++◌, Memᴰ}
 use native.Mathlib.Omega.{arith}
 use lib.Dec.{ltb, eqb}
 use borrow.Author.Tests.{eqb-true, eqb-false}
+use Rattle.std.proofs.lemmas.Bool.{and_parts, and_from, cases_Bool}
 use Rattle.infon.specs.declared.Way.{Way}
 use Rattle.infon.specs.declared.Way.TheVariants.{Hypothesis, Given, Weaken, Left, Right, Both, Apply, Attach}
 use Rattle.infon.specs.declared.Record.{Record}
-use Rattle.infon.proofs.Rows.{and_true, true_and, decided}
 use Rattle.formulas.specs.Table.{cell}
 use Rattle.formulas.specs.Tests.{gives_in, is_marked, premises_marked, leads_to, good_in}
 use Rattle.formulas.proofs.Given.{marked_below}
-use Rattle.ways.specs.Search.{is_whole}
-use Rattle.ways.proofs.Leads.{weaken_bottom, whole_part, both_parts, apply_parts, attach_parts}
+use Rattle.links.specs.declared.Chain.TheVariants as Of
+use Rattle.ways.proofs.Leads.{shares, both_parts, apply_parts, attach_parts}
 use Rattle.frontier.specs.Touched.{parts_by, whole_by, meeting, along, touching, taking_in, taking_all}
 
 -- a record is for a formula by a way
@@ -35,18 +35,18 @@ module _ (t : List ℕ) (n : ℕ) (marks : List ℕ) (g : ℕ) (way : Way) where
   pub goods : good_in t n marks (by g way) ≡ true → Goods t n marks g way
   unfolding good_in leads_to
   goods good =
-      let all = and_true (ltb g n && not (is_marked n marks g)) (premises_marked n marks way && gives_in t way g) good in
-      let front = and_true (ltb g n) (not (is_marked n marks g)) all.0 in
-      let leads = and_true (premises_marked n marks way) (gives_in t way g) all.1 in
+      let all = and_parts (ltb g n && not (is_marked n marks g)) (premises_marked n marks way && gives_in t way g) good in
+      let front = and_parts (ltb g n) (not (is_marked n marks g)) all.0 in
+      let leads = and_parts (premises_marked n marks way) (gives_in t way g) all.1 in
       record { listed = front.0; unmarked = front.1; premises = leads.0; gives = leads.1 }
 
   pub good_of : Goods t n marks g way → good_in t n marks (by g way) ≡ true
   unfolding good_in leads_to
-  good_of parts = true_and (true_and parts.listed parts.unmarked) (true_and parts.premises parts.gives)
+  good_of parts = and_from _ _ (and_from _ _ parts.listed parts.unmarked) (and_from _ _ parts.premises parts.gives)
 
   pub leads_of : Goods t n marks g way → leads_to t n marks g way ≡ true
   unfolding leads_to
-  leads_of parts = true_and parts.premises parts.gives
+  leads_of parts = and_from _ _ parts.premises parts.gives
 
 module _ (t : List ℕ) (n : ℕ) where
   -- the records of f and g are on the row of a column that g holds
@@ -64,7 +64,7 @@ module _ (t : List ℕ) (n : ℕ) where
       (λ (e : eqb i g ≡ false).
       let apart = eqb-false i g e in
       later (eqb (cell t column i) x) (on_row column x f r g count (suc i) (omega (arith, apart)) (omega arith) here there))
-      (decided (eqb i g))
+      (cases_Bool (eqb i g))
     where
       put : (b : Bool) → (b ≡ true → Memᴰ r (meeting t column f i)) → (b ≡ false → ⊥)
           → Memᴰ r (cond b (meeting t column f i ++ along t column x f (suc i) count) (along t column x f (suc i) count))
@@ -131,18 +131,18 @@ module _ (t : List ℕ) (n : ℕ) where
     pub by_weaken : (p : ℕ) → g < n → leads_to t n marks g (Weaken p) ≡ true → Memᴰ (by g (Weaken p)) (touching t n p)
     by_weaken p low h =
         in_bottoms p (by g (Weaken p))
-        (on_row 4 (cell t 4 p) p (by g (Weaken p)) g n 0 (omega arith) (omega arith) (sym (weaken_bottom t n marks g p h)) (weaken_met p g))
+        (on_row 4 (cell t 4 p) p (by g (Weaken p)) g n 0 (omega arith) (omega arith) (sym (shares t n marks g Of.Bottom p h)) (weaken_met p g))
 
     pub by_left : (p : ℕ) → leads_to t n marks g (Left p) ≡ true → Memᴰ (by g (Left p)) (touching t n p)
-    unfolding leads_to premises_marked gives_in is_whole parts_by
+    unfolding parts_by
     by_left p h =
-        let part = whole_part t n marks g 2 p h in
+        let part = shares t n marks g Of.Left p h in
         in_parts p (by g (Left p)) (Memᴰ.head (λ i. by (sym part i) (Left p)))
 
     pub by_right : (p : ℕ) → leads_to t n marks g (Right p) ≡ true → Memᴰ (by g (Right p)) (touching t n p)
-    unfolding leads_to premises_marked gives_in is_whole parts_by
+    unfolding parts_by
     by_right p h =
-        let part = whole_part t n marks g 3 p h in
+        let part = shares t n marks g Of.Right p h in
         in_parts p (by g (Right p)) (Memᴰ.tail (Memᴰ.head (λ i. by (sym part i) (Right p))))
 
     pub by_both_first : (p q : ℕ) → g < n → leads_to t n marks g (Both p q) ≡ true → Memᴰ (by g (Both p q)) (touching t n p)
@@ -188,7 +188,7 @@ module _ (t : List ℕ) (n : ℕ) where
         (λ (e : eqb i g ≡ false).
         let apart = eqb-false i g e in
         Memᴰ.append_right (taking_in t n marks i) (in_all g count (suc i) (omega (arith, apart)) (omega arith) there))
-        (decided (eqb i g))
+        (cases_Bool (eqb i g))
 
     pub in_taking : (p : ℕ) → is_marked n marks p ≡ true → Memᴰ r (touching t n p) → Memᴰ r (taking_all t n marks 0 n)
     unfolding taking_in

@@ -2,19 +2,21 @@
 -- Assumes nothing.
 use Prim.Native.Nat.{ℕ, ◌≤◌}
 use mathlib.Core.Path.{◌≡◌, refl, sym, ◌∙◌, ap, subst}
-use mathlib.Core.Logic.{⊎_elim}
+use mathlib.Core.Logic.{◌⊎◌, ⊎_elim}
 use mathlib.Core.Bool.{Bool, true, false, cond}
 use mathlib.Core.List.Memᴰ
 use mathlib.Core.List.{List, [], ◌∷◌, ◌++◌, Memᴰ}
 use native.Mathlib.Omega.{arith}
 use lib.ListN.{length, length-set}
-use borrow.Author.Tests.{eq-eqb, ne_eqb}
+use Rattle.std.proofs.lemmas.Bool.{cases_Bool}
 use Rattle.infon.specs.declared.Way.TheVariants.{Hypothesis, Given, Weaken, Left, Right, Both, Apply, Attach}
 use Rattle.infon.specs.declared.Record.{Record}
-use Rattle.infon.proofs.Rows.{decided}
 use Rattle.formulas.specs.Table.{cell}
 use Rattle.formulas.specs.Tests.{is_marked, good_in}
 use Rattle.formulas.proofs.Given.{good_below}
+use Rattle.links.specs.declared.Chain.{Chain}
+use Rattle.links.specs.declared.Chain.TheVariants as Of
+use Rattle.links.specs.Chains.{chain_column}
 use Rattle.members.specs.Members.{is_in, with_number, without_member}
 use Rattle.frontier.specs.Touched.{wanted, wanted_all, parts_by, whole_by, meeting, along, touching, taking_in}
 use Rattle.members.proofs.Membership.{with_has, with_keeps}
@@ -48,7 +50,7 @@ module _ (t : List ℕ) (n : ℕ) (marks : List ℕ) where
       ⊎_elim
       (λ (h : good_in t n marks r ≡ true). ap length (sym (good_wanted cover r refl h)) ∙ with_long cover r.formula)
       (λ (h : good_in t n marks r ≡ false). ap length (sym (bad_wanted cover r refl h)))
-      (decided (good_in t n marks r))
+      (cases_Bool (good_in t n marks r))
 
   pub all_long : (rs : List Record) (cover : List ℕ) → length (wanted_all t n marks cover rs) ≡ length cover
   unfolding wanted_all
@@ -70,7 +72,7 @@ module _ (t : List ℕ) (n : ℕ) (marks : List ℕ) where
         let low = good_below t n marks r good in
         ap (λ (c : List ℕ). is_in c i) (sym (good_wanted cover r refl good)) ∙ with_keeps cover r.formula (omega arith) long i h)
         (λ (bad : good_in t n marks r ≡ false). ap (λ (c : List ℕ). is_in c i) (sym (bad_wanted cover r refl bad)) ∙ h)
-        (decided (good_in t n marks r))
+        (cases_Bool (good_in t n marks r))
 
     wanted_has : (cover : List ℕ) (r : Record) → 64 ≤ length cover → good_in t n marks r ≡ true
         → is_in (wanted t n marks cover r) r.formula ≡ true
@@ -114,23 +116,24 @@ module _ (t : List ℕ) (n : ℕ) (marks : List ℕ) where
   unfolding wanted_all whole_by
   whole_wanted cover g is-left is_right first second third = rw (← is-left, ← is_right, ← first, ← second) third
 
-  module _ (cover : List ℕ) (column f g : ℕ) {after : List ℕ} where
-    pub bottom_met : column ≡ 4 → after ≡ wanted t n marks cover (record { formula = g; way = Weaken f })
-        → after ≡ wanted_all t n marks cover (meeting t column f g)
-    unfolding wanted_all meeting
-    bottom_met e is = rw (eq-eqb column 4 e) is
+  -- what f and a formula of its chain may give
+  pub bottom_met : (cover : List ℕ) (f g : ℕ) {after : List ℕ} → after ≡ wanted t n marks cover (record { formula = g; way = Weaken f })
+      → after ≡ wanted_all t n marks cover (meeting t 4 f g)
+  unfolding wanted_all meeting
+  bottom_met cover f g is = is
 
-    pub whole_met : (column ≡ 4 → ⊥) → after ≡ wanted_all t n marks cover (whole_by t g)
-        → after ≡ wanted_all t n marks cover (meeting t column f g)
-    unfolding meeting
-    whole_met other is = rw (ne_eqb column 4 other) is
+  pub whole_met : (cover : List ℕ) (chain : Chain) (f g : ℕ) {after : List ℕ} → (chain ≡ Of.Left) ⊎ (chain ≡ Of.Right)
+      → after ≡ wanted_all t n marks cover (whole_by t g) → after ≡ wanted_all t n marks cover (meeting t (chain_column chain) f g)
+  unfolding meeting
+  whole_met cover chain f g part is =
+      ⊎_elim (λ (e : chain ≡ Of.Left). rw e is) (λ (e : chain ≡ Of.Right). rw e is) part
 
-  pub touching_wanted : (cover : List ℕ) (f : ℕ) {one two three four five : List ℕ} {bottom : ℕ} → bottom ≡ cell t 4 f
+  pub touching_wanted : (cover : List ℕ) (f : ℕ) {one two three four five : List ℕ}
       → one ≡ wanted_all t n marks cover (parts_by t f) → two ≡ wanted_all t n marks one (whole_by t f)
       → three ≡ wanted_all t n marks two (along t 2 f f 0 n) → four ≡ wanted_all t n marks three (along t 3 f f 0 n)
-      → five ≡ wanted_all t n marks four (along t 4 bottom f 0 n) → five ≡ wanted_all t n marks cover (touching t n f)
+      → five ≡ wanted_all t n marks four (along t 4 (cell t 4 f) f 0 n) → five ≡ wanted_all t n marks cover (touching t n f)
   unfolding touching
-  touching_wanted cover f is first second third fourth fifth =
+  touching_wanted cover f first second third fourth fifth =
       rw (
         all_append (parts_by t f) _ cover,
         ← first,
@@ -140,7 +143,6 @@ module _ (t : List ℕ) (n : ℕ) (marks : List ℕ) where
         ← third,
         all_append (along t 3 f f 0 n),
         ← fourth,
-        ← is,
       )
       fifth
 

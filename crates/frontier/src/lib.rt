@@ -2,225 +2,126 @@
 // alone: how it is filled, and how it is widened as a formula is recorded.
 #![tactic(auto)]
 
-ghost use Rattle.std.specs.Prelude.{◌≡◌, ◌-◌, ◌*◌, ◌≤◌, ◌<◌, length};
-ghost use Rattle.formulas.specs.Table.{table_rows, table_cells};
-ghost use Rattle.links.specs.Chains.{chain_cells, ChainOf, Searchable};
-ghost use Rattle.members.specs.Members.{cover_words};
+ghost use Rattle.std.specs.Prelude.{◌≡◌, ◌<◌, ◌≤◌, length};
+ghost use Rattle.links.specs.Chains.{chain_column, shared_at};
 ghost use Rattle.frontier.specs.Found.{Found};
 ghost use Rattle.frontier.specs.Touched.{Covers, wanted, wanted_all, parts_by, whole_by, meeting, along, touching, taking_in, taking_all};
-ghost use Rattle.formulas.specs.Tests.{left_at, hypothesis_at};
 
-use formulas::{BOTTOM, LEFT, RIGHT};
+use formulas::{Column, Formulas};
 use infon::{Record, Way};
-use links::NEXTS;
-use members::{insert, least, remove};
-use ways::Least;
+use links::{Chain, Search};
+use members::{Cover, insert, least, remove};
 
-// The answer to "The next record, if any".
-#[derive(Clone, Copy)]
-pub enum Next {
-    Due(Record),
-    Finished,
-}
-
-// The chains of a column begin so far after those of the column before it.
-const CHAINS: usize = links::RIGHTS - links::LEFTS;
-
-// Puts the formula of a record into the set if the record is good now.
-fn want(table: &[u16], n: usize, marks: &[u8], cover: &mut [u64], r: Record)
-    requires { (table_cells ≤ length table.now) × (n ≤ table_rows) × (n ≤ length marks.now) × (cover_words ≤ length cover.old) }
-    ensures { cover.new ≡ wanted table.now n marks.now cover.old r }
+// Puts a formula into the set if the record of it by a way is good now.
+fn want(list: Formulas, marks: &[u8], cover: &mut Cover, formula: usize, way: Way)
+    requires { list.n ≤ length marks.now }
+    ensures { cover.new ≡ wanted list.entry.table.now list.entry.n marks.now cover.old (record { formula = formula; way = way }) }
 {
-    if rules::is_good(table, n, marks, r) {
-        let formula = r.formula;
+    if rules::is_good(list, marks, Record { formula, way }) {
         insert(cover, formula);
     }
 }
 
 // Rules 4 and 5: wants the parts of f where f is a recorded conjunction.
-fn want_parts(table: &[u16], n: usize, marks: &[u8], cover: &mut [u64], f: usize)
-    requires { (table_cells ≤ length table.now) × (n ≤ table_rows) × (n ≤ length marks.now) × (cover_words ≤ length cover.old) × (f < n) }
-    ensures { cover.new ≡ wanted_all table.now n marks.now cover.old (parts_by table.now f) }
+fn want_parts(list: Formulas, marks: &[u8], cover: &mut Cover, f: usize)
+    requires { (f < list.n) × (list.n ≤ length marks.now) }
+    ensures { cover.new ≡ wanted_all list.entry.table.now list.entry.n marks.now cover.old (parts_by list.entry.table.now f) }
 {
-    let left = formulas::cell_at(table, LEFT, f);
-    let right = formulas::cell_at(table, RIGHT, f);
-    want(
-        table,
-        n,
-        marks,
-        cover,
-        Record {
-            formula: left,
-            way: Way::Left(f),
-        },
-    );
-    want(
-        table,
-        n,
-        marks,
-        cover,
-        Record {
-            formula: right,
-            way: Way::Right(f),
-        },
-    );
+    let left = list.at(Column::Left, f);
+    let right = list.at(Column::Right, f);
+    want(list, marks, cover, left, Way::Left(f));
+    want(list, marks, cover, right, Way::Right(f));
 }
 
 // Rules 6, 8 and 7: wants g where its parts give it, and what g ends in where its condition gives that.
-fn want_whole(table: &[u16], n: usize, marks: &[u8], cover: &mut [u64], g: usize)
-    requires { (table_cells ≤ length table.now) × (n ≤ table_rows) × (n ≤ length marks.now) × (cover_words ≤ length cover.old) × (g < n) }
-    ensures { cover.new ≡ wanted_all table.now n marks.now cover.old (whole_by table.now g) }
+fn want_whole(list: Formulas, marks: &[u8], cover: &mut Cover, g: usize)
+    requires { (g < list.n) × (list.n ≤ length marks.now) }
+    ensures { cover.new ≡ wanted_all list.entry.table.now list.entry.n marks.now cover.old (whole_by list.entry.table.now g) }
 {
-    let left = formulas::cell_at(table, LEFT, g);
-    let right = formulas::cell_at(table, RIGHT, g);
-    want(
-        table,
-        n,
-        marks,
-        cover,
-        Record {
-            formula: g,
-            way: Way::Both(left, right),
-        },
-    );
-    want(
-        table,
-        n,
-        marks,
-        cover,
-        Record {
-            formula: g,
-            way: Way::Attach(right),
-        },
-    );
-    want(
-        table,
-        n,
-        marks,
-        cover,
-        Record {
-            formula: right,
-            way: Way::Apply(left, g),
-        },
-    );
+    let left = list.at(Column::Left, g);
+    let right = list.at(Column::Right, g);
+    want(list, marks, cover, g, Way::Both(left, right));
+    want(list, marks, cover, g, Way::Attach(right));
+    want(list, marks, cover, right, Way::Apply(left, g));
 }
 
-// Rule 3 along the chain of f's bottom, rules 6 to 8 along the chains of f as a part.
-fn meet(table: &[u16], n: usize, marks: &[u8], cover: &mut [u64], column: usize, f: usize, g: usize)
-    requires { (table_cells ≤ length table.now) × (n ≤ table_rows) × (n ≤ length marks.now) × (cover_words ≤ length cover.old) × (g < n) }
-    ensures { cover.new ≡ wanted_all table.now n marks.now cover.old (meeting table.now column f g) }
+// Rule 3 along the chain of f's bottom, rules 6 to 8 along the chains of f as a part. (A match and no closures: the chains are closed.)
+fn meet(list: Formulas, marks: &[u8], cover: &mut Cover, chain: Chain, f: usize, g: usize)
+    requires { (g < list.n) × (list.n ≤ length marks.now) }
+    ensures { cover.new ≡ wanted_all list.entry.table.now list.entry.n marks.now cover.old (meeting list.entry.table.now (chain_column chain) f g) }
 {
-    if column == BOTTOM {
-        want(
-            table,
-            n,
-            marks,
-            cover,
-            Record {
-                formula: g,
-                way: Way::Weaken(f),
-            },
-        );
-    } else {
-        want_whole(table, n, marks, cover, g);
+    match chain {
+        Chain::Left | Chain::Right => want_whole(list, marks, cover, g),
+        Chain::Bottom => want(list, marks, cover, g, Way::Weaken(f)),
     }
 }
 
-// Meets f with each formula that has x in a column, along its chain.
-fn meet_chain(
-    table: &[u16],
-    links: &[u16],
-    n: usize,
-    marks: &[u8],
-    cover: &mut [u64],
-    f: usize,
-    column: usize,
-    x: usize,
-)
-    requires { Searchable table.now links.now marks.now n × (cover_words ≤ length cover.old) × (x < n) × (left_at ≤ column) × (column < hypothesis_at)
-        × ChainOf table.now column n links.now ((column - left_at) * chain_cells) }
-    ensures { cover.new ≡ wanted_all table.now n marks.now cover.old
-        (along table.now column x f 0 n) }
+// Meets f with each formula of its chain.
+fn meet_chain(search: Search, marks: &[u8], cover: &mut Cover, chain: Chain, f: usize)
+    requires { (f < search.list.n) × (search.list.n ≤ length marks.now) }
+    ensures { cover.new ≡ wanted_all search.entry.list.table.now search.entry.list.n marks.now cover.old
+        (along search.entry.list.table.now (chain_column chain) (shared_at search.entry.list.table.now chain f) f 0 search.entry.list.n) }
 {
-    let at = (column - LEFT) * CHAINS;
-    let mut g = links::linked_at(links, at + x);
-    while g < n {
-        meet(table, n, marks, cover, column, f, g);
-        g = links::linked_at(links, at + NEXTS + g);
+    let mut at = search.first(chain, f);
+    while let Some(g) = at {
+        meet(search.list, marks, cover, chain, f, g);
+        at = search.next(chain, g);
     }
 }
 
 // Wants all that is due now by a way that has f as a premise.
-pub fn touch(table: &[u16], links: &[u16], n: usize, marks: &[u8], cover: &mut [u64], f: usize)
-    requires { Searchable table.now links.now marks.now n × (cover_words ≤ length cover.old) × (f < n) }
-    ensures { cover.new ≡ wanted_all table.now n marks.now cover.old (touching table.now n f) }
+pub fn touch(search: Search, marks: &[u8], cover: &mut Cover, f: usize)
+    requires { (f < search.list.n) × (search.list.n ≤ length marks.now) }
+    ensures { cover.new ≡ wanted_all search.entry.list.table.now search.entry.list.n marks.now cover.old
+        (touching search.entry.list.table.now search.entry.list.n f) }
 {
-    let bottom = formulas::cell_at(table, BOTTOM, f);
-    want_parts(table, n, marks, cover, f);
-    want_whole(table, n, marks, cover, f);
-    meet_chain(table, links, n, marks, cover, f, LEFT, f);
-    meet_chain(table, links, n, marks, cover, f, RIGHT, f);
-    meet_chain(table, links, n, marks, cover, f, BOTTOM, bottom);
+    want_parts(search.list, marks, cover, f);
+    want_whole(search.list, marks, cover, f);
+    meet_chain(search, marks, cover, Chain::Left, f);
+    meet_chain(search, marks, cover, Chain::Right, f);
+    meet_chain(search, marks, cover, Chain::Bottom, f);
 }
 
 // Wants i where it needs no premise, and what is due by i where i is recorded.
-fn take_in(table: &[u16], links: &[u16], n: usize, marks: &[u8], cover: &mut [u64], i: usize)
-    requires { Searchable table.now links.now marks.now n × (cover_words ≤ length cover.old) × (i < n) }
-    ensures { cover.new ≡ wanted_all table.now n marks.now cover.old
-        (taking_in table.now n marks.now i) }
+fn take_in(search: Search, marks: &[u8], cover: &mut Cover, i: usize)
+    requires { (i < search.list.n) × (search.list.n ≤ length marks.now) }
+    ensures { cover.new ≡ wanted_all search.entry.list.table.now search.entry.list.n marks.now cover.old
+        (taking_in search.entry.list.table.now search.entry.list.n marks.now i) }
 {
-    want(
-        table,
-        n,
-        marks,
-        cover,
-        Record {
-            formula: i,
-            way: Way::Hypothesis,
-        },
-    );
-    want(
-        table,
-        n,
-        marks,
-        cover,
-        Record {
-            formula: i,
-            way: Way::Given,
-        },
-    );
-    if rules::is_marked(marks, n, i) {
-        touch(table, links, n, marks, cover, i);
+    want(search.list, marks, cover, i, Way::Hypothesis);
+    want(search.list, marks, cover, i, Way::Given);
+    if rules::is_marked(search.list, marks, i) {
+        touch(search, marks, cover, i);
     }
 }
 
 // Fills the set, so that it covers after the recorded formulas.
-pub fn begin(table: &[u16], links: &[u16], n: usize, marks: &[u8], cover: &mut [u64])
-    requires { Searchable table.now links.now marks.now n × (cover_words ≤ length cover.old) }
-    ensures { cover.new ≡ wanted_all table.now n marks.now cover.old
-        (taking_all table.now n marks.now 0 n) }
+pub fn begin(search: Search, marks: &[u8], cover: &mut Cover)
+    requires { search.list.n ≤ length marks.now }
+    ensures { cover.new ≡ wanted_all search.entry.list.table.now search.entry.list.n marks.now cover.old
+        (taking_all search.entry.list.table.now search.entry.list.n marks.now 0 search.entry.list.n) }
 {
-    let mut i = 0;
-    while i < n {
-        take_in(table, links, n, marks, cover, i);
-        i += 1;
+    for i in 0..search.list.n {
+        take_in(search, marks, cover, i);
     }
 }
 
-// The next record after the marked ones: the least member of a covering set that is not recorded and has a way, by its least
-// way. It and the members before it are taken out.
-pub fn next_record(table: &[u16], links: &[u16], n: usize, marks: &[u8], cover: &mut [u64]) -> Next
-    requires { Searchable table.now links.now marks.now n × (cover_words ≤ length cover.old) × Covers table.now n marks.now cover.old }
-    ensures { Found table.now n marks.now cover.old result cover.new }
+// The next record after the marked ones, if any: the least member of a covering set that is not recorded and has a way, by its
+// least way. It and the members before it are taken out.
+pub fn next_record(search: Search, marks: &[u8], cover: &mut Cover) -> Option<Record>
+    requires { (search.list.n ≤ length marks.now) × Covers search.list.table.now search.list.n marks.now cover.old }
+    ensures { Found search.entry.list.table.now search.entry.list.n marks.now cover.old result cover.new }
 {
-    let mut f = least(cover);
-    while f < n {
-        let due = ways::due_way(table, links, marks, n, f);
-        remove(cover, f);
-        if let Least::By(way) = due {
-            return Next::Due(Record { formula: f, way });
+    let mut at = least(cover);
+    while let Some(f) = at {
+        if search.list.n <= f {
+            return None;
         }
-        f = least(cover);
+        remove(cover, f);
+        if let Some(way) = ways::due_way(search, marks, f) {
+            return Some(Record { formula: f, way });
+        }
+        at = least(cover);
     }
-    Next::Finished
+    None
 }

@@ -4,7 +4,7 @@ use Prim.Native.Nat.{ℕ, zero, suc, ◌+◌, ◌*◌, ◌-◌, ◌/◌, ◌%◌
 use native.Mathlib.Omega.{arith}
 use mathlib.Core.Path.{◌≡◌, refl, sym, ◌∙◌, ap}
 use mathlib.Core.Bool.{Bool, true, false, cond}
-use mathlib.Core.Option.{Option, none, some}
+use Rattle.std.specs.Prelude.{Option, None, Some}
 use mathlib.Core.List.{List, [], ◌∷◌, ◌++◌}
 use lib.ListN.{length, get_or, take, drop, set}
 use lib.Bits.{bit_or, or_add_and, and_le_r}
@@ -17,9 +17,7 @@ use Rattle.formulas.specs.Tests.{good_in}
 use Rattle.formulas.proofs.Given.{good_below}
 use Rattle.journal.proofs.Writing.{tail_written}
 use Rattle.ways.specs.Search.{next_in}
-use Rattle.frontier.specs.declared.Next.{Next}
-use Rattle.frontier.specs.declared.Next.TheVariants.{Due, Finished}
-use Rattle.frontier.specs.Found.{next_of, Found}
+use Rattle.frontier.specs.Found.{Found}
 use Rattle.members.specs.Members.{with_number}
 use Rattle.frontier.specs.Touched.{wanted, wanted_all, touching}
 use Rattle.frontier.proofs.Wanting.{all_long}
@@ -27,23 +25,13 @@ use Rattle.frontier.proofs.Once.{Words, found_once}
 use Rattle.growth.specs.Grown.{marks_with, journal_with, cover_with, Addable, Adds}
 use Rattle.growth.proofs.Covering.{covering_touched}
 
-pub next_due : (o : Option Record) (r : Record) → Due r ≡ next_of o → o ≡ some r
-unfolding next_of
-next_due none r e = cc
-next_due (some q) r e = cc
-
-pub next_finished : (o : Option Record) → Finished ≡ next_of o → o ≡ none
-unfolding next_of
-next_finished none e = refl
-next_finished (some q) e = cc
-
-next_below : (t : List ℕ) (n : ℕ) (marks : List ℕ) (r : Record) → next_in t n marks ≡ some r → r.formula < n
+next_below : (t : List ℕ) (n : ℕ) (marks : List ℕ) (r : Record) → next_in t n marks ≡ Some r → r.formula < n
 unfolding next_in
 next_below t n marks r e = good_below t n marks r (first_of_passes (good_in t n marks) (all_records n) r e)
 
-module _ {t links : List ℕ} {n : ℕ} {marks cover journal : List ℕ} {count : ℕ} (addable : Addable t links n marks cover journal count)
-    {answer : Next} {left : List ℕ} (found : Found t n marks cover answer left) where
-  pub none_added : answer ≡ Finished → Adds t n marks cover journal count Finished marks left journal
+module _ {t : List ℕ} {n : ℕ} {marks cover journal : List ℕ} {count : ℕ} (addable : Addable t n marks cover journal count)
+    {answer : Option Record} {left : List ℕ} (found : Found t n marks cover answer left) where
+  pub none_added : answer ≡ None → Adds t n marks cover journal count None marks left journal
   unfolding marks_with journal_with cover_with
   none_added told =
       record {
@@ -55,9 +43,9 @@ module _ {t links : List ℕ} {n : ℕ} {marks cover journal : List ℕ} {count 
         covers = λ r e. let never : ◌≡◌ {A = ℕ} 0 1 = cc in absurd (omega arith);
       }
 
-  module _ (r : Record) (told : answer ≡ Due r) where
-    is_due : next_in t n marks ≡ some r
-    is_due = next_due (next_in t n marks) r (sym told ∙ found.is_next)
+  module _ (r : Record) (told : answer ≡ Some r) where
+    is_due : next_in t n marks ≡ Some r
+    is_due = sym found.is_next ∙ told
 
     -- it is for a listed formula, its mark has a place, and it has room
     pub listed : r.formula < n
@@ -66,21 +54,21 @@ module _ {t links : List ℕ} {n : ℕ} {marks cover journal : List ℕ} {count 
     pub mark_place : r.formula < length marks
     mark_place =
         let low = listed in
-        let long = addable.ready.marks_long in
+        let long = addable.marks_long in
         omega arith
 
     pub record_room : count * 9 + 9 ≤ length journal
     record_room = let room = addable.room r is_due in omega arith
 
-    pub one_added : {last after : List ℕ} → last ≡ written (take (length journal - count * 9) (drop (count * 9) journal)) 0 (spelled r)
+    pub one_added : n ≤ 4096 → length cover ≡ 64 → {last after : List ℕ} → last ≡ written (take (length journal - count * 9) (drop (count * 9) journal)) 0 (spelled r)
         → after ≡ wanted_all t n (set marks r.formula 1) left (touching t n r.formula)
-        → Adds t n marks cover journal count (Due r) (set marks r.formula 1) after
+        → Adds t n marks cover journal count (Some r) (set marks r.formula 1) after
         (take (count * 9) journal ++ (last ++ drop (length journal - count * 9) (drop (count * 9) journal)))
     unfolding marks_with journal_with cover_with
-    one_added e widened =
+    one_added few long e widened =
         let nine : length (spelled r) ≡ 9 = length_spelled r in
         let fits = record_room in
-        let again = covering_touched addable.ready left r.formula listed (found.long ∙ addable.long) (found.covers r told) widened in
+        let again = covering_touched t marks n few left r.formula listed addable.marks_long (found.long ∙ long) (found.covers r told) widened in
         record {
           left = left;
           found = rw told at found;
@@ -121,23 +109,23 @@ all_fits t n marks (r ∷ rest) cover fits =
     each true fits = with_fits cover r.formula fits
     each false fits = fits
 
-left_fits : (t : List ℕ) (n : ℕ) (marks : List ℕ) (next : Next) (cover : List ℕ) → Words (cover_with t n marks cover next) → Words cover
+left_fits : (t : List ℕ) (n : ℕ) (marks : List ℕ) (next : Option Record) (cover : List ℕ) → Words (cover_with t n marks cover next) → Words cover
 unfolding cover_with
-left_fits t n marks (Due r) cover fits = all_fits t n (set marks r.formula 1) (touching t n r.formula) cover fits
-left_fits t n marks Finished cover fits = fits
+left_fits t n marks (Some r) cover fits = all_fits t n (set marks r.formula 1) (touching t n r.formula) cover fits
+left_fits t n marks None cover fits = fits
 
-pub cover_long : {t : List ℕ} {n : ℕ} {marks cover journal : List ℕ} {count : ℕ} {next : Next} {marksAfter coverAfter journalAfter : List ℕ}
+pub cover_long : {t : List ℕ} {n : ℕ} {marks cover journal : List ℕ} {count : ℕ} {next : Option Record} {marksAfter coverAfter journalAfter : List ℕ}
     → Adds t n marks cover journal count next marksAfter coverAfter journalAfter → length coverAfter ≡ length cover
 unfolding cover_with
 cover_long {t} {n} {marks} {cover} {journal} {count} {next} adds =
     ap length adds.cover_is ∙ (each next adds.left ∙ adds.found.long)
   where
-    each : (answer : Next) (left : List ℕ) → length (cover_with t n marks left answer) ≡ length left
-    each (Due r) left = all_long t n (set marks r.formula 1) (touching t n r.formula) left
-    each Finished left = refl
+    each : (answer : Option Record) (left : List ℕ) → length (cover_with t n marks left answer) ≡ length left
+    each (Some r) left = all_long t n (set marks r.formula 1) (touching t n r.formula) left
+    each None left = refl
 
 -- adding to the same marks, set and journal, two runs give the same answer, marks, set and journal; the words of a set have 64 bits
-pub adds_once : {t : List ℕ} {n : ℕ} {marks cover journal : List ℕ} {count : ℕ} {one two : Next}
+pub adds_once : {t : List ℕ} {n : ℕ} {marks cover journal : List ℕ} {count : ℕ} {one two : Option Record}
     {marks₁ marks₂ cover₁ cover₂ journal₁ journal₂ : List ℕ} → Words cover₁ → Words cover₂
     → Adds t n marks cover journal count one marks₁ cover₁ journal₁ → Adds t n marks cover journal count two marks₂ cover₂ journal₂
     → (one ≡ two) × (marks₁ ≡ marks₂) × (cover₁ ≡ cover₂) × (journal₁ ≡ journal₂)
@@ -148,7 +136,7 @@ adds_once {t} {n} {marks} {cover} {journal} {count} {one} {two} fits₁ fits₂ 
       found.0,
       first.marks_are ∙ (ap (marks_with marks) found.0 ∙ sym second.marks_are),
       first.cover_is
-          ∙ (ap (λ (next : Next). cover_with t n marks first.left next) found.0
+          ∙ (ap (λ (next : Option Record). cover_with t n marks first.left next) found.0
           ∙ (ap (λ (left : List ℕ). cover_with t n marks left two) found.1 ∙ sym second.cover_is)),
       first.journal_is ∙ (ap (journal_with journal count) found.0 ∙ sym second.journal_is),
     )

@@ -3,32 +3,30 @@
 use Prim.Native.Nat.{ℕ, zero, suc, ◌+◌, ◌*◌, ◌-◌, ◌≤◌, ◌<◌}
 use native.Mathlib.Nat.{zero-add}
 use native.Mathlib.Omega.{arith}
-use mathlib.Core.Path.{◌≡◌, refl, sym, ◌∙◌, ap}
-use mathlib.Core.Bool.{Bool, true, false}
-use mathlib.Core.Option.{Option, none, some}
+use mathlib.Core.Path.{◌≡◌, refl, sym, ◌∙◌, ap, subst}
+use mathlib.Core.Bool.{Bool, true, not}
+use Rattle.std.specs.Prelude.{Option, None, Some}
+use Rattle.std.specs.Option.{is_some}
 use mathlib.Core.List.{List, [], ◌∷◌}
 use lib.ListN.{length, set, length-set}
 use Rattle.infon.specs.declared.Record.{Record}
-use Rattle.infon.specs.Journal.{record_bytes, spelled, spelled_all, followed, has_none}
+use Rattle.infon.specs.Journal.{record_bytes, spelled, spelled_all, followed}
+use Rattle.std.specs.Prelude.{is_none}
 use Rattle.infon.specs.Run.{written}
 use Rattle.infon.proofs.Codec.{length_spelled}
 use Rattle.infon.proofs.Cuts.{length_written, written_more}
 use Rattle.journal.specs.Kept.{mark_all}
 use Rattle.journal.proofs.Writing.{written_nothing}
-use Rattle.links.specs.Chains.{Searchable}
 use Rattle.ways.specs.Search.{next_in}
-use Rattle.frontier.specs.declared.Next.{Next}
-use Rattle.frontier.specs.declared.Next.TheVariants.{Due, Finished}
 use Rattle.frontier.specs.Found.{Found}
 use Rattle.growth.specs.Grown.{grown_in, marks_with, journal_with, Addable, Adds, Roomy, Grows}
-use Rattle.growth.proofs.Covering.{ready_marked, Covering}
-use Rattle.growth.proofs.Adding.{next_due, next_finished, cover_long}
+use Rattle.growth.proofs.Covering.{Covering}
+use Rattle.growth.proofs.Adding.{cover_long}
 
 -- What is added in all is what is added so far and what is added from here on.
-pub record Growing (t links : List ℕ) (n : ℕ) (marks₀ journal₀ : List ℕ) (kept limit : ℕ) (marks journal : List ℕ) (added : ℕ)
+pub record Growing (t : List ℕ) (n : ℕ) (marks₀ journal₀ : List ℕ) (kept limit : ℕ) (marks journal : List ℕ) (added : ℕ)
     : Type 0 where
-  pub ready : Searchable t links marks n
-  pub marks_long : length marks ≡ length marks₀
+  pub marks_long : n ≤ length marks
   pub journal_long : length journal ≡ length journal₀
   pub room : record_bytes * (kept + added + length (grown_in t n marks (limit - added))) ≤ length journal
   pub counts : length (grown_in t n marks₀ limit) ≡ added + length (grown_in t n marks (limit - added))
@@ -36,7 +34,7 @@ pub record Growing (t links : List ℕ) (n : ℕ) (marks₀ journal₀ : List �
   pub spells : written journal₀ (record_bytes * kept) (spelled_all (grown_in t n marks₀ limit))
       ≡ written journal (record_bytes * (kept + added)) (spelled_all (grown_in t n marks (limit - added)))
 
-grown_none : (t : List ℕ) (n : ℕ) (marks : List ℕ) (limit : ℕ) → next_in t n marks ≡ none → grown_in t n marks limit ≡ []
+grown_none : (t : List ℕ) (n : ℕ) (marks : List ℕ) (limit : ℕ) → next_in t n marks ≡ None → grown_in t n marks limit ≡ []
 unfolding grown_in followed
 grown_none t n marks zero e = refl
 grown_none t n marks (suc limit) e = rw e
@@ -45,27 +43,25 @@ grown_over : (t : List ℕ) (n : ℕ) (marks : List ℕ) (limit : ℕ) → limit
 unfolding grown_in
 grown_over t n marks limit e = rw e
 
-grown_due : (t : List ℕ) (n : ℕ) (marks : List ℕ) (limit left : ℕ) (r : Record) → limit ≡ suc left → next_in t n marks ≡ some r
+grown_due : (t : List ℕ) (n : ℕ) (marks : List ℕ) (limit left : ℕ) (r : Record) → limit ≡ suc left → next_in t n marks ≡ Some r
     → grown_in t n marks limit ≡ r ∷ grown_in t n (set marks r.formula 1) left
 unfolding grown_in followed
 grown_due t n marks limit left r e due = rw (e, due)
 
-none_is : {o : Option Record} → o ≡ none → true ≡ has_none o
-unfolding has_none
+none_is : {o : Option Record} → o ≡ None → true ≡ is_none o
 none_is e = rw e
 
-some_is : {o : Option Record} {r : Record} → o ≡ some r → false ≡ has_none o
-unfolding has_none
-some_is e = rw e
+some_open : (o : Option Record) → not (is_some o) ≡ is_none o
+some_open None = refl
+some_open (Some r) = refl
 
-pub begin : {t links : List ℕ} {n : ℕ} {marks journal : List ℕ} {kept limit : ℕ} → Roomy t links n marks journal kept limit
-    → Growing t links n marks journal kept limit marks journal 0
-begin {t} {links} {n} {marks} {journal} {kept} {limit} roomy =
+pub begin : {t : List ℕ} {n : ℕ} {marks journal : List ℕ} {kept limit : ℕ} → Roomy t n marks journal kept limit
+    → Growing t n marks journal kept limit marks journal 0
+begin {t} {n} {marks} {journal} {kept} {limit} roomy =
     let all : limit - 0 ≡ limit = omega arith in
     let room = roomy.room in
     record {
-      ready = roomy.ready;
-      marks_long = refl;
+      marks_long = roomy.marks_long;
       journal_long = refl;
       room = rw all (omega arith);
       counts = rw (all, zero-add);
@@ -73,19 +69,18 @@ begin {t} {links} {n} {marks} {journal} {kept} {limit} roomy =
       spells = rw all (ap (λ (at : ℕ). written journal at (spelled_all (grown_in t n marks limit))) (omega arith));
     }
 
-module _ {t links : List ℕ} {n : ℕ} {marks₀ journal₀ : List ℕ} {kept limit : ℕ} {marks journal : List ℕ} {added : ℕ}
-    (growing : Growing t links n marks₀ journal₀ kept limit marks journal added) where
-  goes_on : (r : Record) → added < limit → next_in t n marks ≡ some r
+module _ {t : List ℕ} {n : ℕ} {marks₀ journal₀ : List ℕ} {kept limit : ℕ} {marks journal : List ℕ} {added : ℕ}
+    (growing : Growing t n marks₀ journal₀ kept limit marks journal added) where
+  goes_on : (r : Record) → added < limit → next_in t n marks ≡ Some r
       → grown_in t n marks (limit - added) ≡ r ∷ grown_in t n (set marks r.formula 1) (limit - (added + 1))
   goes_on r more due = grown_due t n marks (limit - added) (limit - (added + 1)) r (omega arith) due
 
   -- below the limit, a record that is next has room behind what is added, and before it
   pub addable : {cover : List ℕ} {count : ℕ} → Covering t n marks cover → added < limit → count ≤ kept + added
-      → Addable t links n marks cover journal count
+      → Addable t n marks cover journal count
   addable covering more behind =
       record {
-        ready = growing.ready;
-        long = covering.long;
+        marks_long = growing.marks_long;
         covers = covering.covers;
         room =
             λ r due.
@@ -95,7 +90,7 @@ module _ {t links : List ℕ} {n : ℕ} {marks₀ journal₀ : List ℕ} {kept l
       }
 
   -- where nothing more is added, what stands is the whole
-  over : {finished : Bool} → grown_in t n marks (limit - added) ≡ [] → finished ≡ has_none (next_in t n marks)
+  over : {finished : Bool} → grown_in t n marks (limit - added) ≡ [] → finished ≡ is_none (next_in t n marks)
       → Grows t n marks₀ journal₀ kept limit (record { added = added; finished = finished }) marks journal
   unfolding mark_all spelled_all
   over e ends =
@@ -104,24 +99,24 @@ module _ {t links : List ℕ} {n : ℕ} {marks₀ journal₀ : List ℕ} {kept l
       let marked : marks ≡ mark_all marks₀ (grown_in t n marks₀ limit) = sym (growing.marked ∙ ap (mark_all marks) e) in
       record {
         counted = omega arith;
-        ended = ends ∙ ap (λ (m : List ℕ). has_none (next_in t n m)) marked;
+        ended = ends ∙ ap (λ (m : List ℕ). is_none (next_in t n m)) marked;
         marks_are = marked;
         journal_is =
             sym (growing.spells ∙ ap (λ (l : List Record). written journal (record_bytes * (kept + added)) (spelled_all l)) e
             ∙ written_nothing journal (record_bytes * (kept + added)));
       }
 
-  none_left : next_in t n marks ≡ none → Grows t n marks₀ journal₀ kept limit (record { added = added; finished = true }) marks journal
+  none_left : next_in t n marks ≡ None → Grows t n marks₀ journal₀ kept limit (record { added = added; finished = true }) marks journal
   none_left e = over (grown_none t n marks (limit - added) e) (none_is e)
 
   -- what one call of `add_next` leaves
-  module _ {cover : List ℕ} {answer : Next} {marksAfter coverAfter journalAfter : List ℕ}
+  module _ {cover : List ℕ} {answer : Option Record} {marksAfter coverAfter journalAfter : List ℕ}
       (adds : Adds t n marks cover journal (kept + added) answer marksAfter coverAfter journalAfter) where
-    pub turn : (r : Record) → added < limit → length cover ≡ 64 → answer ≡ Due r
-        → Growing t links n marks₀ journal₀ kept limit marksAfter journalAfter (added + 1) × Covering t n marksAfter coverAfter
+    pub turn : (r : Record) → added < limit → length cover ≡ 64 → answer ≡ Some r
+        → Growing t n marks₀ journal₀ kept limit marksAfter journalAfter (added + 1) × Covering t n marksAfter coverAfter
     unfolding marks_with journal_with mark_all spelled_all
     turn r more long told =
-        let due : next_in t n marks ≡ some r = next_due (next_in t n marks) r (sym told ∙ adds.found.is_next) in
+        let due : next_in t n marks ≡ Some r = sym adds.found.is_next ∙ told in
         let step = goes_on r more due in
         let rest : List Record = grown_in t n (set marks r.formula 1) (limit - (added + 1)) in
         let at : ℕ = 9 * (kept + added) in
@@ -134,8 +129,7 @@ module _ {t links : List ℕ} {n : ℕ} {marks₀ journal₀ : List ℕ} {kept l
         let after : at + length (spelled r) ≡ 9 * (kept + (added + 1)) = omega arith in (
           rw (marks_are, journal_is)
               (record {
-                ready = ready_marked growing.ready (length-set marks r.formula 1);
-                marks_long = length-set marks r.formula 1 ∙ growing.marks_long;
+                marks_long = rw length-set growing.marks_long;
                 journal_long = size_after ∙ growing.journal_long;
                 room = omega arith;
                 counts = let counts = growing.counts in omega arith;
@@ -149,21 +143,16 @@ module _ {t links : List ℕ} {n : ℕ} {marks₀ journal₀ : List ℕ} {kept l
           record { long = cover_long adds ∙ long; covers = adds.covers r told },
         )
 
-    pub none_added : answer ≡ Finished
+    pub none_added : answer ≡ None
         → Grows t n marks₀ journal₀ kept limit (record { added = added; finished = true }) marksAfter journalAfter
     unfolding marks_with journal_with
     none_added told =
         rw (adds.marks_are ∙ ap (marks_with marks) told, adds.journal_is ∙ ap (journal_with journal (kept + added)) told)
-        (none_left (next_finished (next_in t n marks) (sym told ∙ adds.found.is_next)))
+        (none_left (sym adds.found.is_next ∙ told))
 
   -- at the limit the search says whether a record is next
-  module _ (reached : limit ≤ added) {cover : List ℕ} {answer : Next} {left : List ℕ} (found : Found t n marks cover answer left) where
-    pub limit_finished : answer ≡ Finished
-        → Grows t n marks₀ journal₀ kept limit (record { added = added; finished = true }) marks journal
-    limit_finished told = none_left (next_finished (next_in t n marks) (sym told ∙ found.is_next))
-
-    pub limit_reached : (r : Record) → answer ≡ Due r
-        → Grows t n marks₀ journal₀ kept limit (record { added = added; finished = false }) marks journal
-    limit_reached r told =
-        over (grown_over t n marks (limit - added) (omega arith))
-        (some_is (next_due (next_in t n marks) r (sym told ∙ found.is_next)))
+  pub limit_reached : added ≡ limit → {cover left : List ℕ} {answer : Option Record} {more : Bool} → Found t n marks cover answer left
+      → more ≡ is_some answer → Grows t n marks₀ journal₀ kept limit (record { added = limit; finished = not more }) marks journal
+  limit_reached reached {answer = answer} {more = more} found e =
+      subst (λ (a : ℕ). Grows t n marks₀ journal₀ kept limit (record { added = a; finished = not more }) marks journal) reached
+      (over (grown_over t n marks (limit - added) (omega arith)) (ap not e ∙ (some_open answer ∙ ap is_none found.is_next)))

@@ -3,19 +3,19 @@
 use Prim.Native.Nat.{ℕ, zero, suc, ◌*◌, ◌≤◌}
 use native.Mathlib.Omega.{arith}
 use mathlib.Core.Path.{◌≡◌, refl, sym, ◌∙◌, ap}
-use mathlib.Core.Option.{Option, none, some}
+use Rattle.std.specs.Prelude.{Option, None, Some}
 use mathlib.Core.List.{List, [], ◌∷◌, ◌++◌}
 use lib.ListN.{length, set}
 use Rattle.infon.specs.declared.Record.{Record}
 use Rattle.infon.specs.Formula.{Formula}
-use Rattle.infon.specs.Journal.{record_bytes, spelled_all, next, followed, has_none, is_finished, grown}
+use Rattle.infon.specs.Journal.{record_bytes, spelled_all, next, followed, is_finished, grown}
+use Rattle.std.specs.Prelude.{is_none}
 use Rattle.infon.specs.Run.{written}
 use Rattle.infon.proofs.Grown.{GoodRow, grown_good, next_good}
 use Rattle.infon.proofs.Missing.{grown_short}
 use Rattle.formulas.specs.Tests.{Held}
 use Rattle.journal.specs.Kept.{mark_all}
 use Rattle.journal.proofs.Holding.{held_more, held_row}
-use Rattle.links.specs.Chains.{Searchable}
 use Rattle.ways.proofs.Onward.{next_in_lem}
 use Rattle.growth.specs.declared.Growth.{Growth}
 use Rattle.growth.specs.Grown.{grown_in, Roomy, Grows}
@@ -32,13 +32,13 @@ module _ (hyps fs : List Formula) (t : List ℕ) (n : ℕ) where
       refl)
     where
       each : (o : Option Record)
-          → ((r : Record) → next hyps fs done ≡ some r
+          → ((r : Record) → next hyps fs done ≡ Some r
           → grown_in t n (set marks r.formula 1) limit ≡ grown hyps fs (done ++ (r ∷ [])) limit)
           → next hyps fs done ≡ o
           → followed o (λ (r : Record). grown_in t n (set marks r.formula 1) limit)
           ≡ followed o (λ (r : Record). grown hyps fs (done ++ (r ∷ [])) limit)
-      each none later e = refl
-      each (some r) later e = rw (later r e)
+      each None later e = refl
+      each (Some r) later e = rw (later r e)
 
   module _ (done : List Record) (marks : List ℕ) (held : Held hyps fs done t n marks) (limit : ℕ) where
     grown_held : Held hyps fs (done ++ grown hyps fs done limit) t n (mark_all marks (grown_in t n marks limit))
@@ -47,13 +47,13 @@ module _ (hyps fs : List Formula) (t : List ℕ) (n : ℕ) where
         (held_row hyps fs t n done (grown hyps fs done limit) marks (grown_good hyps fs done limit) held)
 
     -- a journal with room for the whole list has room for what is added to good records
-    pub room : (links journal : List ℕ) → Searchable t links marks n → GoodRow hyps fs [] done → record_bytes * n ≤ length journal
-        → Roomy t links n marks journal (length done) limit
-    room links journal ready row long =
+    pub room : (journal : List ℕ) → n ≤ length marks → GoodRow hyps fs [] done → record_bytes * n ≤ length journal
+        → Roomy t n marks journal (length done) limit
+    room journal marks_long row long =
         let short = grown_short hyps fs done row limit in
         let same = ap length (grown_in_lem limit done marks held) in
         let count = held.count in
-        record { ready = ready; room = omega arith }
+        record { marks_long = marks_long; room = omega arith }
 
     module _ (journal : List ℕ) (kept : ℕ) (growth : Growth) (marksAfter journalAfter : List ℕ)
         (grows : Grows t n marks journal kept limit growth marksAfter journalAfter) where
@@ -63,7 +63,7 @@ module _ (hyps fs : List Formula) (t : List ℕ) (n : ℕ) where
       pub finished_is : growth.finished ≡ is_finished hyps fs (done ++ grown hyps fs done limit)
       unfolding is_finished
       finished_is =
-          grows.ended ∙ ap has_none (sym (next_in_lem hyps fs (done ++ grown hyps fs done limit) t n (mark_all marks (grown_in t n marks limit)) grown_held))
+          grows.ended ∙ ap is_none (sym (next_in_lem hyps fs (done ++ grown hyps fs done limit) t n (mark_all marks (grown_in t n marks limit)) grown_held))
 
       pub marks_hold : Held hyps fs (done ++ grown hyps fs done limit) t n marksAfter
       marks_hold = rw grows.marks_are grown_held

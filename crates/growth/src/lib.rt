@@ -3,9 +3,9 @@
 
 ghost use Rattle.growth.specs.Grown.{Addable, Adds, Roomy, Grows};
 
-use frontier::Next;
-use infon::RECORD_BYTES;
-use members::WORDS;
+use infon::{RECORD_BYTES, Record};
+use links::Search;
+use members::{Cover, WORDS};
 
 // How many records were added, and whether no record is next any more.
 #[derive(Clone, Copy)]
@@ -14,67 +14,51 @@ pub struct Growth {
     pub finished: bool,
 }
 
-// Adds the next record to the journal behind its first `count` records, marks it and widens the covering set by it; or says that
-// none is next.
+// Adds the next record to the journal behind its first `count` records, marks it and widens the covering set by it, if one is next.
 pub fn add_next(
-    table: &[u16],
-    links: &[u16],
-    n: usize,
+    search: Search,
     marks: &mut [u8],
-    cover: &mut [u64],
+    cover: &mut Cover,
     journal: &mut [u8],
     count: usize,
-) -> Next
-    requires { Addable table.now links.now n marks.old cover.old journal.old count }
-    ensures { Adds table.now n marks.old cover.old journal.old count result marks.new
+) -> Option<Record>
+    requires { Addable search.list.table.now search.list.n marks.old cover.old journal.old count }
+    ensures { Adds search.entry.list.table.now search.entry.list.n marks.old cover.old journal.old count result marks.new
         cover.new journal.new }
 {
-    let Next::Due(r) = frontier::next_record(table, links, n, marks, cover) else {
-        return Next::Finished;
-    };
+    let r = frontier::next_record(search, marks, cover)?;
     let at = count * RECORD_BYTES;
     journal::encode(&mut journal[at..], r);
-    let formula = r.formula;
-    marks[formula] = 1;
-    frontier::touch(table, links, n, marks, cover, formula);
-    Next::Due(r)
+    marks[r.formula] = 1;
+    frontier::touch(search, marks, cover, r.formula);
+    Some(r)
 }
 
 // Adds the next record, again and again, until none is next or as many were added as the limit says.
 pub fn grow(
-    table: &[u16],
-    links: &[u16],
-    n: usize,
+    search: Search,
     marks: &mut [u8],
     journal: &mut [u8],
     kept: usize,
     limit: usize,
 ) -> Growth
-    requires { Roomy table.now links.now n marks.old journal.old kept limit }
-    ensures { Grows table.now n marks.old journal.old kept limit result marks.new
+    requires { Roomy search.list.table.now search.list.n marks.old journal.old kept limit }
+    ensures { Grows search.entry.list.table.now search.entry.list.n marks.old journal.old kept limit result marks.new
         journal.new }
 {
     let mut cover = [0u64; WORDS];
-    frontier::begin(table, links, n, marks, &mut cover);
-    let mut added = 0;
-    while added < limit {
-        let count = kept + added;
-        let Next::Due(_) = add_next(table, links, n, marks, &mut cover, journal, count) else {
+    frontier::begin(search, marks, &mut cover);
+    for added in 0..limit {
+        let Some(_) = add_next(search, marks, &mut cover, journal, kept + added) else {
             return Growth {
                 added,
                 finished: true,
             };
         };
-        added += 1;
     }
-    let Next::Due(_) = frontier::next_record(table, links, n, marks, &mut cover) else {
-        return Growth {
-            added,
-            finished: true,
-        };
-    };
+    let more = frontier::next_record(search, marks, &mut cover).is_some();
     Growth {
-        added,
-        finished: false,
+        added: limit,
+        finished: !more,
     }
 }

@@ -1,8 +1,8 @@
 -- 02, M-100: a call for a chain gives the first code of its row whose rule holds, and changes nothing then; where none holds it lends
 -- the query's chain, the one row of which all that 02 says holds, and a journal of its own.
 -- Assumes nothing.
-use Prim.Native.Nat.{ℕ, zero, suc, ◌+◌, ◌*◌, ◌≤◌, ◌<◌}
-use native.Mathlib.Nat.{le_refl}
+use Prim.Native.Nat.{ℕ, suc, ◌+◌, ◌*◌, ◌≤◌, ◌<◌}
+use native.Mathlib.Nat.{le_refl, pos_of_ne-zero}
 use native.Mathlib.Omega.{arith}
 use mathlib.Core.Path.{◌≡◌, refl, sym, ◌∙◌, ap, subst}
 use mathlib.Core.Logic.{◌⊎◌, ⊎_elim}
@@ -14,10 +14,8 @@ use lib.Seq.{take_at, take-length, drop_at}
 use lib.Dec.{ltb, eqb}
 use borrow.Author.Tests.{ltb-true, ltb-false, lt-ltb, eq-eqb, eqb-true, eqb-false, not-true, not-false}
 use Rattle.infon.specs.declared.Record.{Record}
-use Rattle.infon.specs.declared.Verdict.{Verdict}
-use Rattle.infon.specs.declared.Verdict.TheVariants.{Passed}
 use Rattle.infon.specs.Formula.{Formula}
-use Rattle.infon.specs.Codes.{and_then, tried, First, None}
+use Rattle.infon.specs.Codes.{and_then, tried, First, None, Verdict, passed}
 use Rattle.infon.specs.Policy.{entries_of, queries_of, hypotheses_of}
 use Rattle.infon.specs.Listing.{list_of}
 use Rattle.infon.specs.Journal.{record_bytes, spelled_all, whole_records, kept_after, kept_of}
@@ -25,7 +23,8 @@ use Rattle.infon.specs.Reasons.{reasons, IsChain}
 use Rattle.infon.specs.Run.{file_codes, file_verdict, is_on_record, written, code7, run}
 use Rattle.infon.specs.Chain.{query_of, code31, code32, code33, ChainOutcome, chain_refusal, lent, chain}
 use Rattle.infon.specs.Board.{CountOutside, count_none, count_beyond, NotRecorded, not_recorded, ChainTooLong, chain_too_long, chain_row}
-use Rattle.infon.proofs.Rows.{or_true, true_or, or_false_both, some_of_witness, witness_some_of}
+use Rattle.std.proofs.lemmas.Bool.{or_right, or_cases, or_parts}
+use Rattle.infon.proofs.Rows.{some_of_witness, witness_some_of}
 use Rattle.infon.proofs.Same.{same_eq}
 use Rattle.infon.proofs.Listed.{numbered_injective, code5_passed}
 use Rattle.infon.proofs.Codec.{length_spelled_all, whole_records_cong}
@@ -41,10 +40,6 @@ unfolding is_on_record
 on_record_more fs rs more x on =
     let found = some_of_witness _ rs on in
     witness_some_of _ (Memᴰ.append_left more found.1.0) found.1.1
-
-pub positive : (n : ℕ) → (n ≡ 0 → ⊥) → 1 ≤ n
-positive zero h = absurd (h refl)
-positive (suc n) h = omega arith
 
 module _ (file journal : List ℕ) (used count : ℕ) (out : List ℕ) where
   abbrev queries : List Formula
@@ -69,11 +64,11 @@ module _ (file journal : List ℕ) (used count : ℕ) (out : List ℕ) where
       (λ h.
       ⊎_elim (λ (none : eqb count 0 ≡ true). count_none (eqb-true count 0 none))
       (λ (over : ltb (length queries) count ≡ true). count_beyond (ltb-true (length queries) count over))
-      (or_true (eqb count 0) (ltb (length queries) count) h))
+      (or_cases (eqb count 0) (ltb (length queries) count) h))
     where
       inside : {place : ℕ} → CountOutside file count place → (place ≡ 0) × (eqb count 0 || ltb (length queries) count ≡ true)
       inside (count_none e) = (refl, rw (eq-eqb count 0 e))
-      inside (count_beyond h) = (refl, true_or (eqb count 0) (lt-ltb (length queries) count h))
+      inside (count_beyond h) = (refl, or_right (eqb count 0) _ (lt-ltb (length queries) count h))
 
   says32 : Says (record { number = 32; rule = NotRecorded fs kept asked }) (code32 fs kept asked)
   unfolding code32
@@ -141,7 +136,7 @@ module _ (file journal : List ℕ) (used count : ℕ) (out : List ℕ) where
 
   -- What is so where no rule of the row holds.
   pub record LetsLend : Type 0 where
-    pub accepted : file_verdict file ≡ Passed
+    pub accepted : file_verdict file ≡ passed
     pub used_inside : used ≤ length journal
     pub counted : (1 ≤ count) × (count ≤ length queries)
     pub recorded : is_on_record fs kept asked ≡ true
@@ -158,12 +153,12 @@ module _ (file journal : List ℕ) (used count : ℕ) (out : List ℕ) where
       let behind7 = and_then_passed (code7 journal used) from31 all.1 in
       let behind31 = and_then_passed (code31 queries count) from32 behind7.1 in
       let behind32 = and_then_passed (code32 fs kept asked) from33 behind31.1 in
-      let last = and_then_passed (code33 row out) Passed behind32.1 in
-      let outside = or_false_both (eqb count 0) (ltb (length queries) count) (when_passed (eqb count 0 || ltb (length queries) count) 31 0 behind31.0) in
+      let last = and_then_passed (code33 row out) passed behind32.1 in
+      let outside = or_parts (eqb count 0) (ltb (length queries) count) (when_passed (eqb count 0 || ltb (length queries) count) 31 0 behind31.0) in
       record {
         accepted = all.0;
         used_inside = not_less (length journal) used 7 behind7.0;
-        counted = (positive count (eqb-false count 0 outside.0), ltb-false (length queries) count outside.1);
+        counted = (pos_of_ne-zero (eqb-false count 0 outside.0), ltb-false (length queries) count outside.1);
         recorded = not-false (is_on_record fs kept asked) (when_passed (not (is_on_record fs kept asked)) 32 0 behind32.0);
         room = not_less (length out) (record_bytes * length row) 33 last.0;
       }

@@ -4,12 +4,13 @@ use Prim.Native.Nat.{ℕ, zero, suc, ◌+◌, ◌≤◌, ◌<◌}
 use mathlib.Core.Path.{◌≡◌, refl, sym, ◌∙◌, ap}
 use mathlib.Core.Logic.{⊎_elim}
 use mathlib.Core.Bool.{Bool, true, false, cond}
+use mathlib.Core.List.Memᴰ
 use mathlib.Core.List.{List, [], ◌∷◌, Memᴰ}
 use native.Mathlib.Nat.{eq-or-lt_of_le}
 use native.Mathlib.Omega.{arith}
 use lib.ListN.{length}
 use Rattle.infon.specs.Journal.{numbers_from}
-use Rattle.infon.proofs.Rows.{decided}
+use Rattle.std.proofs.lemmas.Bool.{cases_Bool}
 
 unfoldable pub count_of : (ℕ → Bool) → List ℕ → ℕ
 count_of test [] = 0
@@ -28,8 +29,8 @@ pub count_alike : (test other : ℕ → Bool) (ns : List ℕ) → ((n : ℕ) →
 unfolding count_of
 count_alike test other [] h = refl
 count_alike test other (n ∷ rest) h =
-    let here = h n (mathlib.Core.List.Memᴰ.head refl) in
-    let later = count_alike test other rest (λ m i. h m (mathlib.Core.List.Memᴰ.tail i)) in
+    let here = h n (Memᴰ.head refl) in
+    let later = count_alike test other rest (λ m i. h m (Memᴰ.tail i)) in
     rw (here, later)
 
 pub count_at_most : (test : ℕ → Bool) (ns : List ℕ) → count_of test ns ≤ length ns
@@ -40,7 +41,7 @@ count_at_most test (n ∷ rest) =
     ⊎_elim
     (λ (h : test n ≡ true). rw (count_passed test n rest h) (omega arith))
     (λ (h : test n ≡ false). rw (count_failed test n rest h) (omega arith))
-    (decided (test n))
+    (cases_Bool (test n))
 
 nothing_between : (i n : ℕ) → i ≤ n → n < i + 0 → ⊥
 nothing_between i n low high = omega arith
@@ -48,20 +49,20 @@ nothing_between i n low high = omega arith
 -- the numbers from i on: each once, in order
 pub from_above : (i k : ℕ) (n : ℕ) → Memᴰ n (numbers_from i k) → (i ≤ n) × (n < i + k)
 unfolding numbers_from
-from_above i zero n m = absurd (mathlib.Core.List.Memᴰ.not-nil m)
+from_above i zero n m = absurd (Memᴰ.not-nil m)
 from_above i (suc k) n m =
     ⊎_elim
     (λ (e : n ≡ i). (omega arith, omega arith))
     (λ (t : Memᴰ n (numbers_from (suc i) k)). let b = from_above (suc i) k n t in (omega arith, omega arith))
-    (mathlib.Core.List.Memᴰ.cases_cons m)
+    (Memᴰ.cases_cons m)
 
 pub from_has : (i k n : ℕ) → i ≤ n → n < i + k → Memᴰ n (numbers_from i k)
 unfolding numbers_from
 from_has i zero n low high = absurd (nothing_between i n low high)
 from_has i (suc k) n low high =
     ⊎_elim
-    (λ (e : i ≡ n). mathlib.Core.List.Memᴰ.head (sym e))
-    (λ (l : i < n). mathlib.Core.List.Memᴰ.tail (from_has (suc i) k n l (omega arith)))
+    (λ (e : i ≡ n). Memᴰ.head (sym e))
+    (λ (l : i < n). Memᴰ.tail (from_has (suc i) k n l (omega arith)))
     (eq-or-lt_of_le low)
 
 pub from_length : (i k : ℕ) → length (numbers_from i k) ≡ k
@@ -92,5 +93,5 @@ count_gained test other i (suc k) n low high was now others =
     (λ (p : test i ≡ false).
     count_failed other i (numbers_from (suc i) k) (sym here ∙ p)
     ∙ (later ∙ ap suc (sym (count_failed test i (numbers_from (suc i) k) p))))
-    (decided (test i)))
+    (cases_Bool (test i)))
     (eq-or-lt_of_le low)

@@ -6,7 +6,7 @@ use native.Mathlib.Omega.{arith}
 use mathlib.Core.Path.{◌≡◌, refl, sym, ◌∙◌, ap, subst}
 use mathlib.Core.Logic.{◌⊎◌, ⊎_elim, ◌↔◌}
 use mathlib.Core.Bool.{Bool, true, false}
-use mathlib.Core.Option.{some}
+use Rattle.std.specs.Prelude.{Some}
 use mathlib.Core.List.{List, [], ◌∷◌, ◌++◌, map}
 use lib.ListN.{length, take, drop, get_or, length-append, length-map, get_or-append}
 use lib.Seq.{take_at, take-length}
@@ -21,7 +21,8 @@ use Rattle.infon.specs.Calculus.{Derives, through}
 use Rattle.infon.specs.Rules.{numbered}
 use Rattle.infon.specs.Journal.{is_recorded, is_good, record_bytes, spelled_all, decoded, whole_records, kept_after, kept_of, all_records, next, is_finished, grown}
 use Rattle.infon.specs.Run.{answer_byte, answer_of, is_on_record, answers_of, Missing, Outcome, written, success, run}
-use Rattle.infon.proofs.Rows.{decided, get_d_map}
+use Rattle.std.proofs.lemmas.Bool.{cases_Bool}
+use Rattle.std.proofs.lemmas.List.{get_or-map}
 use Rattle.infon.proofs.Codec.{AreBytes, length_spelled_all, whole_records_cong}
 use Rattle.infon.proofs.Listed.{list_closed, hypotheses_listed, queries_listed, numbered_injective, code5_passed, numbered_mem}
 use Rattle.infon.proofs.Prefixes.{mem_listed}
@@ -75,7 +76,7 @@ list_of_lem file =
 pub kept_is_such_a_row : (file journal : List ℕ) (used : ℕ)
     → GoodRow (hypotheses_in file) (list_in file) [] (kept_part file journal used)
     × (map decoded (take (length (kept_part file journal used)) (whole_records (used / record_bytes) journal))
-    ≡ map some (kept_part file journal used))
+    ≡ map Some (kept_part file journal used))
 unfolding kept_of
 kept_is_such_a_row file journal used =
     let rows = whole_records (used / record_bytes) journal in
@@ -83,7 +84,7 @@ kept_is_such_a_row file journal used =
 
 -- .. and it begins with every such row.
 pub kept_is_longest : (file journal : List ℕ) (used : ℕ) (row : List Record) → GoodRow (hypotheses_in file) (list_in file) [] row
-    → map decoded (take (length row) (whole_records (used / record_bytes) journal)) ≡ map some row
+    → map decoded (take (length row) (whole_records (used / record_bytes) journal)) ≡ map Some row
     → take (length row) (kept_part file journal used) ≡ row
 unfolding kept_of
 kept_is_longest file journal used row good spelled =
@@ -161,8 +162,8 @@ module _ (file journal : List ℕ) (used limit : ℕ) (answers : List ℕ) (acce
       let inside : i < length (map answer_byte said) = rw (length-map said answer_byte, length-map (queries_in file) asked) low in
       ap (λ (o : Outcome). get_or o.answers i 0) outcome_is
       ∙ (get_or-append (map answer_byte said) (drop (0 + length (map answer_byte said)) answers) 0 i inside
-      ∙ (get_d_map answer_byte said i Open 0 (rw (length-map (queries_in file) asked) low)
-      ∙ (ap answer_byte (get_d_map asked (queries_in file) i True Open low)
+      ∙ (get_or-map answer_byte said i Open 0 (rw (length-map (queries_in file) asked) low)
+      ∙ (ap answer_byte (get_or-map asked (queries_in file) i True Open low)
       ∙ ap (λ (b : Bool). answer_byte (answer_of (is_on_record fs left (query_at file i)) b)) (sym finished_is))))
 
   query_listed : (i : ℕ) → i < length (queries_in file) → is_listed (query_at file i) (list_in file) ≡ true
@@ -202,7 +203,7 @@ module _ (file journal : List ℕ) (used limit : ℕ) (answers : List ℕ) (acce
         (answer_is i low ∙ recorded_yes (run file journal used limit answers).report.finished on))))
         (λ (off : is_on_record (list_in file) (records_left file journal used limit) (query_at file i) ≡ false).
         answer_is i low ∙ finished_no off finished)
-        (decided (is_on_record (list_in file) (records_left file journal used limit) (query_at file i))),
+        (cases_Bool (is_on_record (list_in file) (records_left file journal used limit) (query_at file i))),
   )
 
   -- "Before that, yes is said only where the journal already holds the record; .."
@@ -341,7 +342,7 @@ no_other_is_missing file journal used m n one other =
 -- "The next record, if any: among all good records choose the least formula number, then the least rule, first premise and
 -- second premise."
 pub next_is_least : (file : List ℕ) (done : List Record) (r : Record) → GoodRow (hypotheses_in file) (list_in file) [] done
-    → next (hypotheses_in file) (list_in file) done ≡ some r
+    → next (hypotheses_in file) (list_in file) done ≡ Some r
     → (is_good (hypotheses_in file) (list_in file) done r ≡ true)
     × ((s : Record) → is_good (hypotheses_in file) (list_in file) done s ≡ true → (s ≡ r) ⊎ Before r s)
 unfolding next
@@ -393,5 +394,5 @@ pub equal_exactly : (x y : Formula) → is_named x ≡ true → is_named y ≡ t
 equal_exactly x y named-x named-y = (λ e. ap spelling e, λ e. spelled_alike x y named-x named-y e)
 
 -- A line is read as a sentence exactly when it is that sentence's line and the sentence is of the language.
-pub read_exactly : (line : List ℕ) (s : Sentence) → (sentence_of line ≡ some s) ↔ ((line ≡ line_of s) × (is_named (formula_in s) ≡ true))
+pub read_exactly : (line : List ℕ) (s : Sentence) → (sentence_of line ≡ Some s) ↔ ((line ≡ line_of s) × (is_named (formula_in s) ≡ true))
 read_exactly line s = (line_read line s, λ spelled. ap sentence_of spelled.0 ∙ read_line s spelled.1)

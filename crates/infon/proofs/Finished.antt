@@ -16,7 +16,8 @@ use Rattle.infon.specs.Calculus.{Weaker, Derives}
 use Rattle.infon.specs.Rules.{shape_of, is_truth, is_left, is_right, are_both, is_conclusion, is_condition, numbered, gives}
 use Rattle.infon.specs.Journal.{is_recorded, premises_in, is_good, all_records, next, is_finished}
 use Rattle.infon.specs.Run.{is_on_record}
-use Rattle.infon.proofs.Rows.{true_and, decided, some_of_witness, witness_some_of}
+use Rattle.std.proofs.lemmas.Bool.{and_from, cases_Bool}
+use Rattle.infon.proofs.Rows.{some_of_witness, witness_some_of}
 use Rattle.infon.proofs.Same.{same_refl, same_eq}
 use Rattle.infon.proofs.Prefixes.{listed_mem, mem_listed, shape_wrap_True, shape_wrap_and, shape_wrap_implies, weaker_weakenings}
 use Rattle.infon.proofs.Listed.{listed_number, numbered_mem}
@@ -38,7 +39,7 @@ module _ (hyps fs : List Formula) where
       → premises_in r.way done ≡ true → gives hyps fs r.way (numbered fs r.formula) ≡ true → is_good hyps fs done r ≡ true
   unfolding is_good
   is_good_lem done r low fresh premises follows =
-      true_and (true_and (true_and (lt-ltb r.formula (length fs) low) (ap not fresh)) premises) follows
+      and_from _ _ (and_from _ _ (and_from _ _ (lt-ltb r.formula (length fs) low) (ap not fresh)) premises) follows
 
   -- so whatever a rule gives is recorded
   forced : (done : List Record) (n : ℕ) (way : Way) → is_finished hyps fs done ≡ true → n < length fs → PremisesBelow (length fs) way
@@ -48,7 +49,7 @@ module _ (hyps fs : List Formula) where
       ⊎_elim (λ yes. yes)
       (λ fresh.
       absurd (false≢true (sym (none_good done r finished low below) ∙ is_good_lem done r low fresh premises follows)))
-      (decided (is_recorded n done))
+      (cases_Bool (is_recorded n done))
 
   -- a formula that is recorded, by its number
   answered_by : (done : List Record) (n : ℕ) (x : Formula) → is_recorded n done ≡ true → numbered fs n ≡ x → is_on_record fs done x ≡ true
@@ -92,13 +93,13 @@ module _ (hyps fs : List Formula) where
       → gives hyps fs (Both p q) (wrap w (and x y)) ≡ true
   unfolding gives are_both is_left is_right
   gives_both p q w x y ex ey =
-      rw (ex, ey, shape_wrap_and) (true_and (same_refl (wrap w x)) (same_refl (wrap w y)))
+      rw (ex, ey, shape_wrap_and) (and_from _ _ (same_refl (wrap w x)) (same_refl (wrap w y)))
 
   gives_apply : (p q : ℕ) (w : Prefix) (x y : Formula) → numbered fs p ≡ wrap w x → numbered fs q ≡ wrap w (implies x y)
       → gives hyps fs (Apply p q) (wrap w y) ≡ true
   unfolding gives is_condition is_conclusion
   gives_apply p q w x y ex ei =
-      rw (ex, ei, shape_wrap_implies) (true_and (same_refl (wrap w x)) (same_refl (wrap w y)))
+      rw (ex, ei, shape_wrap_implies) (and_from _ _ (same_refl (wrap w x)) (same_refl (wrap w y)))
 
   gives_attach : (p : ℕ) (w : Prefix) (x y : Formula) → numbered fs p ≡ wrap w y → gives hyps fs (Attach p) (wrap w (implies x y)) ≡ true
   unfolding gives is_conclusion
@@ -143,12 +144,12 @@ module _ (hyps fs : List Formula) where
             let p = number_of done (wrap w x) sound hx in
             let q = number_of done (wrap w y) sound hy in
             conclude done (Both p.0 q.0) (wrap w (and x y)) finished l (p.1.0, q.1.0)
-            (true_and p.1.1.0 q.1.1.0) (gives_both p.0 q.0 w x y p.1.1.1 q.1.1.1);
+            (and_from _ _ p.1.1.0 q.1.1.0) (gives_both p.0 q.0 w x y p.1.1.1 q.1.1.1);
         by_apply =
             λ w x y hx hi l.
             let p = number_of done (wrap w x) sound hx in
             let q = number_of done (wrap w (implies x y)) sound hi in
-            conclude done (Apply p.0 q.0) (wrap w y) finished l (p.1.0, q.1.0) (true_and p.1.1.0 q.1.1.0)
+            conclude done (Apply p.0 q.0) (wrap w y) finished l (p.1.0, q.1.0) (and_from _ _ p.1.1.0 q.1.1.0)
             (gives_apply p.0 q.0 w x y p.1.1.1 q.1.1.1);
         by_attach =
             λ w x y h l.

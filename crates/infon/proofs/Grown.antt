@@ -7,7 +7,8 @@ use native.Mathlib.Omega.{arith}
 use mathlib.Core.Path.{◌≡◌, refl, sym, ◌∙◌, ap}
 use mathlib.Core.Logic.{inl, inr}
 use mathlib.Core.Bool.{Bool, true, false, ◌&&◌, not, false≢true}
-use mathlib.Core.Option.{Option, none, some, none-ne-some}
+use Rattle.std.specs.Prelude.{Option, None, Some}
+use Rattle.std.proofs.lemmas.Option.{none-some}
 use mathlib.Core.List.Memᴰ
 use mathlib.Core.List.{List, [], ◌∷◌, ◌++◌, map, append_assoc, append-nil, Memᴰ, nil≢cons, cons≢nil, head-eq_of_cons-eq, tail-eq_of_cons-eq}
 use lib.ListN.{length, take, drop, take-append-drop}
@@ -20,8 +21,10 @@ use Rattle.infon.specs.declared.Record.{Record}
 use Rattle.infon.specs.Bytes.{first_of}
 use Rattle.infon.specs.Formula.{Formula}
 use Rattle.infon.specs.Rules.{gives, numbered}
-use Rattle.infon.specs.Journal.{record_bytes, is_recorded, premises_in, is_good, no_premise, first_premise, second_premise, spelled, spelled_all, decoded, whole_records, followed, only_good, kept_after, next, has_none, is_finished, grown, all_records}
-use Rattle.infon.proofs.Rows.{and_true, some_of_witness}
+use Rattle.infon.specs.Journal.{record_bytes, is_recorded, premises_in, is_good, no_premise, first_premise, second_premise, spelled, spelled_all, decoded, whole_records, followed, only_good, kept_after, next, is_finished, grown, all_records}
+use Rattle.std.specs.Prelude.{is_none}
+use Rattle.std.proofs.lemmas.Bool.{and_parts}
+use Rattle.infon.proofs.Rows.{some_of_witness}
 use Rattle.infon.proofs.Codec.{cond_cases, AreBytes, Small, decoded_spelled_each, spelled_all_decoded, length_whole_records, whole_records_spelled_all}
 
 -- Each of the records is good after `done` and those before it.
@@ -33,15 +36,15 @@ pub data GoodRow (hyps fs : List Formula) : List Record → List Record → Type
 -- How a row is kept: until the rows of bytes end, or one of them spells no good record.
 data Keeping (hyps fs : List Formula) : List Record → List (List ℕ) → List Record → Type 0 where
   through : (done : List Record) → Keeping hyps fs done [] []
-  broken : (done : List Record) (s : List ℕ) (cs : List (List ℕ)) → only_good hyps fs done (decoded s) ≡ none → Keeping hyps fs done (s ∷ cs) []
-  held : (done : List Record) (s : List ℕ) (cs : List (List ℕ)) (r : Record) (rest : List Record) → only_good hyps fs done (decoded s) ≡ some r
+  broken : (done : List Record) (s : List ℕ) (cs : List (List ℕ)) → only_good hyps fs done (decoded s) ≡ None → Keeping hyps fs done (s ∷ cs) []
+  held : (done : List Record) (s : List ℕ) (cs : List (List ℕ)) (r : Record) (rest : List Record) → only_good hyps fs done (decoded s) ≡ Some r
       → Keeping hyps fs (done ++ (r ∷ [])) cs rest → Keeping hyps fs done (s ∷ cs) (r ∷ rest)
 
 -- How a row grows: "each the next one", until the limit is reached or no record is next.
 data Growth (hyps fs : List Formula) : List Record → ℕ → List Record → Type 0 where
   limited : (done : List Record) → Growth hyps fs done 0 []
-  none_next : (done : List Record) (n : ℕ) → next hyps fs done ≡ none → Growth hyps fs done n []
-  grew : (done : List Record) (n : ℕ) (r : Record) (rest : List Record) → next hyps fs done ≡ some r → Growth hyps fs (done ++ (r ∷ [])) n rest
+  none_next : (done : List Record) (n : ℕ) → next hyps fs done ≡ None → Growth hyps fs done n []
+  grew : (done : List Record) (n : ℕ) (r : Record) (rest : List Record) → next hyps fs done ≡ Some r → Growth hyps fs (done ++ (r ∷ [])) n rest
       → Growth hyps fs done (suc n) (r ∷ rest)
 
 -- The numbers of all these records are below n.
@@ -49,11 +52,11 @@ abbrev pub Below : ℕ → List Record → Type 0
 Below n done = (q : Record) → Memᴰ q done → q.formula < n
 
 -- what `first_of` gives passes the test
-pub first_of_passes : {A : Type 0} (test : A → Bool) (xs : List A) (x : A) → first_of test xs ≡ some x → test x ≡ true
+pub first_of_passes : {A : Type 0} (test : A → Bool) (xs : List A) (x : A) → first_of test xs ≡ Some x → test x ≡ true
 unfolding first_of
-first_of_passes test [] x e = absurd (none-ne-some x e)
+first_of_passes test [] x e = absurd (none-some x e)
 first_of_passes test (y ∷ ys) x e =
-    elim (cond_cases (test y) (some y) (first_of test ys) (some x) e) [
+    elim (cond_cases (test y) (Some y) (first_of test ys) (Some x) e) [
       | inl passes ↦ let same : y ≡ x = cc in rw (← same) passes.0
       | inr fails ↦ first_of_passes test ys x fails.1
     ]
@@ -77,10 +80,10 @@ premises_small (Weaken p) done below h = (recorded_below 65536 p done below h, o
 premises_small (Left p) done below h = (recorded_below 65536 p done below h, omega arith)
 premises_small (Right p) done below h = (recorded_below 65536 p done below h, omega arith)
 premises_small (Both p q) done below h =
-    let both = and_true (is_recorded p done) (is_recorded q done) h in
+    let both = and_parts (is_recorded p done) (is_recorded q done) h in
     (recorded_below 65536 p done below both.0, recorded_below 65536 q done below both.1)
 premises_small (Apply p q) done below h =
-    let both = and_true (is_recorded p done) (is_recorded q done) h in
+    let both = and_parts (is_recorded p done) (is_recorded q done) h in
     (recorded_below 65536 p done below both.0, recorded_below 65536 q done below both.1)
 premises_small (Attach p) done below h = (recorded_below 65536 p done below h, omega arith)
 
@@ -95,22 +98,22 @@ module _ (hyps fs : List Formula) where
       let unrecorded = not (is_recorded r.formula done) in
       let premises = premises_in r.way done in
       let given = gives hyps fs r.way (numbered fs r.formula) in
-      let four = and_true (number && unrecorded && premises) given h in
-      let three = and_true (number && unrecorded) premises four.0 in
-      let two = and_true number unrecorded three.0 in
+      let four = and_parts (number && unrecorded && premises) given h in
+      let three = and_parts (number && unrecorded) premises four.0 in
+      let two = and_parts number unrecorded three.0 in
       (ltb-true r.formula (length fs) two.0, not-true (is_recorded r.formula done) two.1, three.1, four.1)
 
   -- a row of bytes counts if it spells a record, and that is good
-  only_good_some : (done : List Record) (o : Option Record) (r : Record) → only_good hyps fs done o ≡ some r → (o ≡ some r) × (is_good hyps fs done r ≡ true)
+  only_good_some : (done : List Record) (o : Option Record) (r : Record) → only_good hyps fs done o ≡ Some r → (o ≡ Some r) × (is_good hyps fs done r ≡ true)
   unfolding only_good
-  only_good_some done none r e = absurd (none-ne-some r e)
-  only_good_some done (some q) r e =
-      elim (cond_cases (is_good hyps fs done q) (some q) none (some r) e) [
+  only_good_some done None r e = absurd (none-some r e)
+  only_good_some done (Some q) r e =
+      elim (cond_cases (is_good hyps fs done q) (Some q) None (Some r) e) [
         | inl good ↦ let same : q ≡ r = cc in (good.1, rw (← same) good.0)
-        | inr bad ↦ absurd (none-ne-some r bad.1)
+        | inr bad ↦ absurd (none-some r bad.1)
       ]
 
-  pub next_good : (done : List Record) (r : Record) → next hyps fs done ≡ some r → is_good hyps fs done r ≡ true
+  pub next_good : (done : List Record) (r : Record) → next hyps fs done ≡ Some r → is_good hyps fs done r ≡ true
   unfolding next
   next_good done r e = first_of_passes (is_good hyps fs done) (all_records (length fs)) r e
 
@@ -122,8 +125,8 @@ module _ (hyps fs : List Formula) where
       onwards : (o : Option Record) → only_good hyps fs done (decoded s) ≡ o
           → ((r : Record) → Keeping hyps fs (done ++ (r ∷ [])) cs (kept_after hyps fs (done ++ (r ∷ [])) cs))
           → Keeping hyps fs done (s ∷ cs) (followed o (λ (r : Record). kept_after hyps fs (done ++ (r ∷ [])) cs))
-      onwards none e later = broken done s cs e
-      onwards (some r) e later = held done s cs r (kept_after hyps fs (done ++ (r ∷ [])) cs) e (later r)
+      onwards None e later = broken done s cs e
+      onwards (Some r) e later = held done s cs r (kept_after hyps fs (done ++ (r ∷ [])) cs) e (later r)
 
   grown_growth : (done : List Record) (n : ℕ) → Growth hyps fs done n (grown hyps fs done n)
   unfolding grown followed
@@ -133,8 +136,8 @@ module _ (hyps fs : List Formula) where
       onwards : (o : Option Record) → next hyps fs done ≡ o
           → ((r : Record) → Growth hyps fs (done ++ (r ∷ [])) n (grown hyps fs (done ++ (r ∷ [])) n))
           → Growth hyps fs done (suc n) (followed o (λ (r : Record). grown hyps fs (done ++ (r ∷ [])) n))
-      onwards none e later = none_next done (suc n) e
-      onwards (some r) e later = grew done n r (grown hyps fs (done ++ (r ∷ [])) n) e (later r)
+      onwards None e later = none_next done (suc n) e
+      onwards (Some r) e later = grew done n r (grown hyps fs (done ++ (r ∷ [])) n) e (later r)
 
   keeping_good : (done : List Record) (cs : List (List ℕ)) (xs : List Record) → Keeping hyps fs done cs xs → GoodRow hyps fs done xs
   keeping_good done cs xs (through _) = stop done
@@ -174,7 +177,7 @@ module _ (hyps fs : List Formula) where
   good_take done xs (suc n) (stop _) = stop done
   good_take done xs (suc n) (more _ r rest good later) = more done r (take n rest) good (good_take (done ++ (r ∷ [])) rest n later)
 
-  keeping_decoded : (done : List Record) (cs : List (List ℕ)) (xs : List Record) → Keeping hyps fs done cs xs → map decoded (take (length xs) cs) ≡ map some xs
+  keeping_decoded : (done : List Record) (cs : List (List ℕ)) (xs : List Record) → Keeping hyps fs done cs xs → map decoded (take (length xs) cs) ≡ map Some xs
   keeping_decoded done cs xs (through _) = refl
   keeping_decoded done cs xs (broken _ s rest e) = refl
   keeping_decoded done cs xs (held _ s rest r ys e later) =
@@ -194,7 +197,7 @@ module _ (hyps fs : List Formula) where
 
   -- what is kept is what the rows of bytes spell
   pub kept_decoded : (done : List Record) (cs : List (List ℕ))
-      → map decoded (take (length (kept_after hyps fs done cs)) cs) ≡ map some (kept_after hyps fs done cs)
+      → map decoded (take (length (kept_after hyps fs done cs)) cs) ≡ map Some (kept_after hyps fs done cs)
   kept_decoded done cs = keeping_decoded done cs (kept_after hyps fs done cs) (kept_keeping done cs)
 
   -- the kept part's bytes are what its records spell
@@ -202,13 +205,13 @@ module _ (hyps fs : List Formula) where
       → take (record_bytes * length (kept_after hyps fs done (whole_records n s))) s ≡ spelled_all (kept_after hyps fs done (whole_records n s))
   kept_spelled done n s bytes h = spelled_all_decoded (kept_after hyps fs done (whole_records n s)) n s bytes h (kept_decoded done (whole_records n s))
 
-  kept_some : (done : List Record) (s : List ℕ) (cs : List (List ℕ)) (r : Record) → decoded s ≡ some r → is_good hyps fs done r ≡ true
+  kept_some : (done : List Record) (s : List ℕ) (cs : List (List ℕ)) (r : Record) → decoded s ≡ Some r → is_good hyps fs done r ≡ true
       → kept_after hyps fs done (s ∷ cs) ≡ r ∷ kept_after hyps fs (done ++ (r ∷ [])) cs
   unfolding kept_after only_good followed
   kept_some done s cs r e good = rw (e, good)
 
   -- good records in front are kept, and what follows is kept after them
-  pub kept_append : (done xs : List Record) (front later : List (List ℕ)) → GoodRow hyps fs done xs → map decoded front ≡ map some xs
+  pub kept_append : (done xs : List Record) (front later : List (List ℕ)) → GoodRow hyps fs done xs → map decoded front ≡ map Some xs
       → kept_after hyps fs done (front ++ later) ≡ xs ++ kept_after hyps fs (done ++ xs) later
   kept_append done xs [] later (stop _) e = rw append-nil
   kept_append done xs (s ∷ front) later (stop _) e = absurd (cons≢nil e)
@@ -221,7 +224,7 @@ module _ (hyps fs : List Formula) where
       )
 
   -- the kept part is the longest: a row of good records that the rows of bytes begin with is a beginning of it
-  pub kept_longest : (done xs : List Record) (cs : List (List ℕ)) → GoodRow hyps fs done xs → map decoded (take (length xs) cs) ≡ map some xs
+  pub kept_longest : (done xs : List Record) (cs : List (List ℕ)) → GoodRow hyps fs done xs → map decoded (take (length xs) cs) ≡ map Some xs
       → take (length xs) (kept_after hyps fs done cs) ≡ xs
   kept_longest done xs cs goods e =
       ap (λ (rows : List (List ℕ)). take (length xs) (kept_after hyps fs done rows)) (sym (take-append-drop (length xs) cs))
@@ -229,25 +232,25 @@ module _ (hyps fs : List Formula) where
       ∙ take-append_seam xs (kept_after hyps fs (done ++ xs) (drop (length xs) cs))
 
   -- growth stops where no record is next, and goes on behind the next one
-  grown_none : (done : List Record) (n : ℕ) → next hyps fs done ≡ none → grown hyps fs done n ≡ []
+  grown_none : (done : List Record) (n : ℕ) → next hyps fs done ≡ None → grown hyps fs done n ≡ []
   unfolding grown followed
   grown_none done zero e = refl
   grown_none done (suc n) e = rw e
 
-  pub grown_some : (done : List Record) (n : ℕ) (r : Record) → next hyps fs done ≡ some r → grown hyps fs done (suc n) ≡ r ∷ grown hyps fs (done ++ (r ∷ [])) n
+  pub grown_some : (done : List Record) (n : ℕ) (r : Record) → next hyps fs done ≡ Some r → grown hyps fs done (suc n) ≡ r ∷ grown hyps fs (done ++ (r ∷ [])) n
   unfolding grown followed
   grown_some done n r e = rw e
 
-  pub finished_none : (done : List Record) → is_finished hyps fs done ≡ true → next hyps fs done ≡ none
-  unfolding is_finished has_none
+  pub finished_none : (done : List Record) → is_finished hyps fs done ≡ true → next hyps fs done ≡ None
+  unfolding is_finished
   finished_none done e = none_left (next hyps fs done) e
     where
-      none_left : (o : Option Record) → has_none o ≡ true → o ≡ none
-      none_left none e = refl
-      none_left (some r) e = absurd (false≢true e)
+      none_left : (o : Option Record) → is_none o ≡ true → o ≡ None
+      none_left None e = refl
+      none_left (Some r) e = absurd (false≢true e)
 
-  pub none_finished : (done : List Record) → next hyps fs done ≡ none → is_finished hyps fs done ≡ true
-  unfolding is_finished has_none
+  pub none_finished : (done : List Record) → next hyps fs done ≡ None → is_finished hyps fs done ≡ true
+  unfolding is_finished
   none_finished done e = rw e
 
   pub finished_grown : (done : List Record) (n : ℕ) → is_finished hyps fs done ≡ true → grown hyps fs done n ≡ []

@@ -3,6 +3,7 @@
 use Prim.Native.Nat.{ℕ, zero, suc, ◌≤◌, ◌<◌}
 use mathlib.Core.Path.{◌≡◌, refl, sym, ◌∙◌, ap, subst}
 use mathlib.Core.Logic.{◌⊎◌, inl, inr, ⊎_elim}
+use mathlib.Core.List.Memᴰ
 use mathlib.Core.List.{List, [], ◌∷◌, ◌++◌, map, Memᴰ}
 use native.Mathlib.Omega.{arith}
 use Rattle.infon.specs.declared.Way.{Way}
@@ -10,7 +11,7 @@ use Rattle.infon.specs.declared.Way.TheVariants.{Hypothesis, Given, Weaken, Left
 use Rattle.infon.specs.declared.Record.{Record}
 use Rattle.infon.specs.Journal.{rule_of, first_premise, second_premise, numbers_from, each_pair, all_ways, records_for, all_records}
 use Rattle.infon.proofs.Counting.{from_above, from_has}
-use Rattle.infon.proofs.Ascending.{Ascending, ascending_append, ascending_map, mem_map, map_mem}
+use Rattle.infon.proofs.Ascending.{Ascending, ascending_append, ascending_map}
 
 -- the order of ways: the rule, then the first premise, then the second
 abbrev pub WayBefore : Way → Way → Type 0
@@ -49,7 +50,7 @@ block_since k ws vs here later =
           ⊎_elim
           (λ (i : Memᴰ w ws). let e = here.rule w i in omega arith)
           (λ (i : Memᴰ w vs). let e = later.rule w i in omega arith)
-          (mathlib.Core.List.Memᴰ.append_cases ws m);
+          (Memᴰ.append_cases ws m);
       ascends =
           ascending_append WayBefore ws vs here.ascends later.ascends
           (λ v w i j. inl (let e = here.rule v i in let f = later.rule w j in omega arith));
@@ -60,7 +61,7 @@ one_block : (k : ℕ) (rule : ℕ → Way) (ns : List ℕ) → ((p : ℕ) → ru
 unfolding Less
 one_block k rule ns is first up =
     record {
-      rule = λ w m. let there = map_mem rule w ns m in ap rule_of there.1.1 ∙ is there.0;
+      rule = λ w m. let there = Memᴰ.of_map rule ns m in ap rule_of (sym there.2) ∙ is there.0;
       ascends =
           ascending_map rule Less WayBefore
           (λ p q less. inr (is p ∙ sym (is q), inl (let a = first p in let b = first q in omega arith))) ns up;
@@ -69,31 +70,31 @@ one_block k rule ns is first up =
 pair_mem : (rule : ℕ → ℕ → Way) (ps qs : List ℕ) (w : Way) → Memᴰ w (each_pair rule ps qs)
     → (p : ℕ) × (Memᴰ p ps × ((q : ℕ) × (Memᴰ q qs × (w ≡ rule p q))))
 unfolding each_pair
-pair_mem rule [] qs w m = absurd (mathlib.Core.List.Memᴰ.not-nil m)
+pair_mem rule [] qs w m = absurd (Memᴰ.not-nil m)
 pair_mem rule (p ∷ ps) qs w m =
     ⊎_elim
-    (λ (i : Memᴰ w (map (rule p) qs)). let there = map_mem (rule p) w qs i in (p, (mathlib.Core.List.Memᴰ.head refl, (there.0, there.1))))
+    (λ (i : Memᴰ w (map (rule p) qs)). let there = Memᴰ.of_map (rule p) qs i in (p, (Memᴰ.head refl, (there.0, (there.1, sym there.2)))))
     (λ (i : Memᴰ w (each_pair rule ps qs)).
     let there = pair_mem rule ps qs w i in
-    (there.0, (mathlib.Core.List.Memᴰ.tail there.1.0, there.1.1)))
-    (mathlib.Core.List.Memᴰ.append_cases (map (rule p) qs) m)
+    (there.0, (Memᴰ.tail there.1.0, there.1.1)))
+    (Memᴰ.append_cases (map (rule p) qs) m)
 
 mem_pair : (rule : ℕ → ℕ → Way) (p q : ℕ) (ps qs : List ℕ) → Memᴰ p ps → Memᴰ q qs
     → Memᴰ (rule p q) (each_pair rule ps qs)
 unfolding each_pair
-mem_pair rule p q [] qs i j = absurd (mathlib.Core.List.Memᴰ.not-nil i)
+mem_pair rule p q [] qs i j = absurd (Memᴰ.not-nil i)
 mem_pair rule p q (n ∷ ps) qs i j =
     ⊎_elim
     (λ (e : p ≡ n).
-    mathlib.Core.List.Memᴰ.append_left (each_pair rule ps qs) (subst (λ (m : ℕ). Memᴰ (rule p q) (map (rule m) qs)) e (mem_map (rule p) j)))
-    (λ (t : Memᴰ p ps). mathlib.Core.List.Memᴰ.append_right (map (rule n) qs) (mem_pair rule p q ps qs t j))
-    (mathlib.Core.List.Memᴰ.cases_cons i)
+    Memᴰ.append_left (each_pair rule ps qs) (subst (λ (m : ℕ). Memᴰ (rule p q) (map (rule m) qs)) e (Memᴰ.map (rule p) j)))
+    (λ (t : Memᴰ p ps). Memᴰ.append_right (map (rule n) qs) (mem_pair rule p q ps qs t j))
+    (Memᴰ.cases_cons i)
 
 two_block : (k : ℕ) (rule : ℕ → ℕ → Way) (ps qs : List ℕ) → ((p q : ℕ) → rule_of (rule p q) ≡ k)
     → ((p q : ℕ) → first_premise (rule p q) ≡ p) → ((p q : ℕ) → second_premise (rule p q) ≡ q) → Ascending Less ps
     → Ascending Less qs → Block k (each_pair rule ps qs)
 unfolding each_pair Less
-two_block k rule [] qs is first second up across = record { rule = λ w m. absurd (mathlib.Core.List.Memᴰ.not-nil m); ascends = tt }
+two_block k rule [] qs is first second up across = record { rule = λ w m. absurd (Memᴰ.not-nil m); ascends = tt }
 two_block k rule (p ∷ ps) qs is first second up across =
     let later = two_block k rule ps qs is first second up.1 across in
     record {
@@ -110,9 +111,9 @@ two_block k rule (p ∷ ps) qs is first second up across =
           qs across)
           later.ascends
           (λ v w i j.
-          let from = map_mem (rule p) v qs i in
+          let from = Memᴰ.of_map (rule p) qs i in
           let to = pair_mem rule ps qs w j in
-          let ev = from.1.1 in
+          let ev = sym from.2 in
           let ew = to.1.1.1.1 in
           let less = up.0 to.0 to.1.0 in
           inr (
@@ -147,39 +148,39 @@ ways_ascend ns up =
           ⊎_elim
           (λ (e : w ≡ Given). inl (subst (λ (v : Way). 1 < rule_of v) (sym e) (omega arith)))
           (λ (i : Memᴰ w _). inl (let b = since3.rule w i in omega arith))
-          (mathlib.Core.List.Memᴰ.cases_cons m),
+          (Memᴰ.cases_cons m),
       (λ w m. inl (let b = since3.rule w m in omega arith), since3.ascends),
     )
 
 record_mem : (ways : List Way) (ns : List ℕ) (r : Record) → Memᴰ r (records_for ways ns)
     → Memᴰ r.formula ns × Memᴰ r.way ways
 unfolding records_for
-record_mem ways [] r m = absurd (mathlib.Core.List.Memᴰ.not-nil m)
+record_mem ways [] r m = absurd (Memᴰ.not-nil m)
 record_mem ways (n ∷ ns) r m =
     ⊎_elim
     (λ (i : Memᴰ r (map (λ (w : Way). record { formula = n; way = w }) ways)).
-    let there = map_mem (λ (w : Way). record { formula = n; way = w }) r ways i in (
-      mathlib.Core.List.Memᴰ.head (ap (λ (s : Record). s.formula) there.1.1),
-      subst (λ (w : Way). Memᴰ w ways) (sym (ap (λ (s : Record). s.way) there.1.1)) there.1.0,
+    let there = Memᴰ.of_map (λ (w : Way). record { formula = n; way = w }) ways i in (
+      Memᴰ.head (ap (λ (s : Record). s.formula) (sym there.2)),
+      subst (λ (w : Way). Memᴰ w ways) (ap (λ (s : Record). s.way) there.2) there.1,
     ))
     (λ (i : Memᴰ r (records_for ways ns)).
     let there = record_mem ways ns r i in
-    (mathlib.Core.List.Memᴰ.tail there.0, there.1))
-    (mathlib.Core.List.Memᴰ.append_cases (map (λ (w : Way). record { formula = n; way = w }) ways) m)
+    (Memᴰ.tail there.0, there.1))
+    (Memᴰ.append_cases (map (λ (w : Way). record { formula = n; way = w }) ways) m)
 
 mem_record : (ways : List Way) (ns : List ℕ) (r : Record) → Memᴰ r.formula ns → Memᴰ r.way ways
     → Memᴰ r (records_for ways ns)
 unfolding records_for
-mem_record ways [] r i j = absurd (mathlib.Core.List.Memᴰ.not-nil i)
+mem_record ways [] r i j = absurd (Memᴰ.not-nil i)
 mem_record ways (n ∷ ns) r i j =
     ⊎_elim
     (λ (e : r.formula ≡ n).
-    mathlib.Core.List.Memᴰ.append_left (records_for ways ns)
+    Memᴰ.append_left (records_for ways ns)
     (subst (λ (m : ℕ). Memᴰ r (map (λ (w : Way). record { formula = m; way = w }) ways)) e
-    (mem_map (λ (w : Way). record { formula = r.formula; way = w }) j)))
+    (Memᴰ.map (λ (w : Way). record { formula = r.formula; way = w }) j)))
     (λ (t : Memᴰ r.formula ns).
-    mathlib.Core.List.Memᴰ.append_right (map (λ (w : Way). record { formula = n; way = w }) ways) (mem_record ways ns r t j))
-    (mathlib.Core.List.Memᴰ.cases_cons i)
+    Memᴰ.append_right (map (λ (w : Way). record { formula = n; way = w }) ways) (mem_record ways ns r t j))
+    (Memᴰ.cases_cons i)
 
 records_ascend : (ways : List Way) (ns : List ℕ) → Ascending WayBefore ways → Ascending Less ns
     → Ascending Before (records_for ways ns)
@@ -190,8 +191,8 @@ records_ascend ways (n ∷ ns) up across =
     (ascending_map (λ (w : Way). record { formula = n; way = w }) WayBefore Before (λ v w before. inr (refl, before)) ways up)
     (records_ascend ways ns up across.1)
     (λ r s i j.
-    let from = map_mem (λ (w : Way). record { formula = n; way = w }) r ways i in
-    let e = ap (λ (t : Record). t.formula) from.1.1 in
+    let from = Memᴰ.of_map (λ (w : Way). record { formula = n; way = w }) ways i in
+    let e = ap (λ (t : Record). t.formula) from.2 in
     let less = across.0 s.formula (record_mem ways ns s j).0 in
     inl (omega arith))
 
@@ -214,49 +215,49 @@ PremisesBelow n (Attach p) = p < n
 
 pub way_mem : (n : ℕ) (w : Way) → PremisesBelow n w → Memᴰ w (all_ways (numbers_from 0 n))
 unfolding all_ways
-way_mem n Hypothesis b = mathlib.Core.List.Memᴰ.head refl
-way_mem n Given b = mathlib.Core.List.Memᴰ.tail (mathlib.Core.List.Memᴰ.head refl)
+way_mem n Hypothesis b = Memᴰ.head refl
+way_mem n Given b = Memᴰ.tail (Memᴰ.head refl)
 way_mem n (Weaken p) b =
-    mathlib.Core.List.Memᴰ.tail (mathlib.Core.List.Memᴰ.tail (mathlib.Core.List.Memᴰ.append_left _ (mem_map Weaken (from_has 0 n p (omega arith) (omega arith)))))
+    Memᴰ.tail (Memᴰ.tail (Memᴰ.append_left _ (Memᴰ.map Weaken (from_has 0 n p (omega arith) (omega arith)))))
 way_mem n (Left p) b =
-    mathlib.Core.List.Memᴰ.tail
-    (mathlib.Core.List.Memᴰ.tail
-    (mathlib.Core.List.Memᴰ.append_right (map Weaken (numbers_from 0 n))
-    (mathlib.Core.List.Memᴰ.append_left _ (mem_map Left (from_has 0 n p (omega arith) (omega arith))))))
+    Memᴰ.tail
+    (Memᴰ.tail
+    (Memᴰ.append_right (map Weaken (numbers_from 0 n))
+    (Memᴰ.append_left _ (Memᴰ.map Left (from_has 0 n p (omega arith) (omega arith))))))
 way_mem n (Right p) b =
-    mathlib.Core.List.Memᴰ.tail
-    (mathlib.Core.List.Memᴰ.tail
-    (mathlib.Core.List.Memᴰ.append_right (map Weaken (numbers_from 0 n))
-    (mathlib.Core.List.Memᴰ.append_right (map Left (numbers_from 0 n))
-    (mathlib.Core.List.Memᴰ.append_left _ (mem_map Right (from_has 0 n p (omega arith) (omega arith)))))))
+    Memᴰ.tail
+    (Memᴰ.tail
+    (Memᴰ.append_right (map Weaken (numbers_from 0 n))
+    (Memᴰ.append_right (map Left (numbers_from 0 n))
+    (Memᴰ.append_left _ (Memᴰ.map Right (from_has 0 n p (omega arith) (omega arith)))))))
 way_mem n (Both p q) b =
-    mathlib.Core.List.Memᴰ.tail
-    (mathlib.Core.List.Memᴰ.tail
-    (mathlib.Core.List.Memᴰ.append_right (map Weaken (numbers_from 0 n))
-    (mathlib.Core.List.Memᴰ.append_right (map Left (numbers_from 0 n))
-    (mathlib.Core.List.Memᴰ.append_right (map Right (numbers_from 0 n))
-    (mathlib.Core.List.Memᴰ.append_left _
+    Memᴰ.tail
+    (Memᴰ.tail
+    (Memᴰ.append_right (map Weaken (numbers_from 0 n))
+    (Memᴰ.append_right (map Left (numbers_from 0 n))
+    (Memᴰ.append_right (map Right (numbers_from 0 n))
+    (Memᴰ.append_left _
     (mem_pair Both p q (numbers_from 0 n) (numbers_from 0 n) (from_has 0 n p (omega arith) (omega arith))
     (from_has 0 n q (omega arith) (omega arith))))))))
 way_mem n (Apply p q) b =
-    mathlib.Core.List.Memᴰ.tail
-    (mathlib.Core.List.Memᴰ.tail
-    (mathlib.Core.List.Memᴰ.append_right (map Weaken (numbers_from 0 n))
-    (mathlib.Core.List.Memᴰ.append_right (map Left (numbers_from 0 n))
-    (mathlib.Core.List.Memᴰ.append_right (map Right (numbers_from 0 n))
-    (mathlib.Core.List.Memᴰ.append_right (each_pair Both (numbers_from 0 n) (numbers_from 0 n))
-    (mathlib.Core.List.Memᴰ.append_left _
+    Memᴰ.tail
+    (Memᴰ.tail
+    (Memᴰ.append_right (map Weaken (numbers_from 0 n))
+    (Memᴰ.append_right (map Left (numbers_from 0 n))
+    (Memᴰ.append_right (map Right (numbers_from 0 n))
+    (Memᴰ.append_right (each_pair Both (numbers_from 0 n) (numbers_from 0 n))
+    (Memᴰ.append_left _
     (mem_pair Apply p q (numbers_from 0 n) (numbers_from 0 n) (from_has 0 n p (omega arith) (omega arith))
     (from_has 0 n q (omega arith) (omega arith)))))))))
 way_mem n (Attach p) b =
-    mathlib.Core.List.Memᴰ.tail
-    (mathlib.Core.List.Memᴰ.tail
-    (mathlib.Core.List.Memᴰ.append_right (map Weaken (numbers_from 0 n))
-    (mathlib.Core.List.Memᴰ.append_right (map Left (numbers_from 0 n))
-    (mathlib.Core.List.Memᴰ.append_right (map Right (numbers_from 0 n))
-    (mathlib.Core.List.Memᴰ.append_right (each_pair Both (numbers_from 0 n) (numbers_from 0 n))
-    (mathlib.Core.List.Memᴰ.append_right (each_pair Apply (numbers_from 0 n) (numbers_from 0 n))
-    (mem_map Attach (from_has 0 n p (omega arith) (omega arith)))))))))
+    Memᴰ.tail
+    (Memᴰ.tail
+    (Memᴰ.append_right (map Weaken (numbers_from 0 n))
+    (Memᴰ.append_right (map Left (numbers_from 0 n))
+    (Memᴰ.append_right (map Right (numbers_from 0 n))
+    (Memᴰ.append_right (each_pair Both (numbers_from 0 n) (numbers_from 0 n))
+    (Memᴰ.append_right (each_pair Apply (numbers_from 0 n) (numbers_from 0 n))
+    (Memᴰ.map Attach (from_has 0 n p (omega arith) (omega arith)))))))))
 
 -- every record whose numbers are below n is among the candidates
 pub all_has : (n : ℕ) (r : Record) → r.formula < n → PremisesBelow n r.way → Memᴰ r (all_records n)

@@ -4,13 +4,14 @@
 use Prim.Native.Nat.{ℕ}
 use mathlib.Core.Path.{◌≡◌, refl, sym, ◌∙◌, ap, subst₂}
 use mathlib.Core.Bool.{true, false, cond}
-use mathlib.Core.Option.{some, none-ne-some, some-injective}
+use Rattle.std.specs.Prelude.{Some, option_map}
+use Rattle.std.proofs.lemmas.Option.{none-some, same_Some}
 use mathlib.Core.List.{List, [], ◌∷◌, ◌++◌, flatten}
 use lib.Dec.{eqb}
 use borrow.Author.Tests.{eqb-true}
 use Rattle.infon.specs.Bytes.{bytes, line_feed, alike}
 use Rattle.infon.specs.Formula.{Formula, is_named, spelling, onto, formula_of}
-use Rattle.infon.specs.Policy.{cut, Sentence, hypothesis, query, says, in_front, before_feed, read, sentence_of, formula_in}
+use Rattle.infon.specs.Policy.{cut, Sentence, hypothesis, query, before_feed, read, sentence_of, formula_in}
 use Rattle.infon.proofs.Words.{picked, picked_alike, from_some}
 use Rattle.infon.proofs.Readable.{read_spelling, spelling_read}
 
@@ -36,21 +37,21 @@ unfolding cut
 cut_byte b s h = ap (λ t. cond t ((b ∷ []) ∷ cut s) (onto b (cut s))) h
 
 -- The line feed that ends a line.
-pub before_feed_ended : (text : List ℕ) → before_feed (text ++ (line_feed ∷ [])) ≡ some text
-unfolding before_feed in_front line_feed
+pub before_feed_ended : (text : List ℕ) → before_feed (text ++ (line_feed ∷ [])) ≡ Some text
+unfolding before_feed line_feed
 before_feed_ended [] = refl
 before_feed_ended (b ∷ []) = refl
-before_feed_ended (b ∷ (c ∷ text)) = ap (in_front b) (before_feed_ended (c ∷ text))
+before_feed_ended (b ∷ (c ∷ text)) = ap (option_map (λ t. b ∷ t)) (before_feed_ended (c ∷ text))
 
-pub ended_before_feed : (line text : List ℕ) → before_feed line ≡ some text → line ≡ text ++ (line_feed ∷ [])
-unfolding before_feed in_front
-ended_before_feed [] text h = absurd (none-ne-some text h)
+pub ended_before_feed : (line text : List ℕ) → before_feed line ≡ Some text → line ≡ text ++ (line_feed ∷ [])
+unfolding before_feed
+ended_before_feed [] text h = absurd (none-some text h)
 ended_before_feed (b ∷ []) text h =
-    picked (eqb b line_feed) h (λ t e. rw (eqb-true b line_feed t, ← some-injective [] text e))
-    λ e. absurd (none-ne-some text e)
+    picked (eqb b line_feed) h (λ t e. rw (eqb-true b line_feed t, ← same_Some [] text e))
+    λ e. absurd (none-some text e)
 ended_before_feed (b ∷ (c ∷ line)) text h =
-    let rest = from_some (in_front b) refl (before_feed (c ∷ line)) text h in
-    rw (← some-injective (b ∷ rest.0) text rest.2, ended_before_feed (c ∷ line) rest.0 rest.1)
+    let rest = from_some (option_map (λ t. b ∷ t)) refl (before_feed (c ∷ line)) text h in
+    rw (← same_Some (b ∷ rest.0) text rest.2, ended_before_feed (c ∷ line) rest.0 rest.1)
 
 -- Sentences. How the line of each kind begins, and the whole line:
 abbrev pub opening : Sentence → List ℕ
@@ -60,8 +61,8 @@ opening (query x) = bytes "Q "
 abbrev pub line_of : Sentence → List ℕ
 line_of s = opening s ++ (spelling (formula_in s) ++ (line_feed ∷ []))
 
-pub read_line : (s : Sentence) → is_named (formula_in s) ≡ true → sentence_of (line_of s) ≡ some s
-unfolding sentence_of formula_in bytes alike read says
+pub read_line : (s : Sentence) → is_named (formula_in s) ≡ true → sentence_of (line_of s) ≡ Some s
+unfolding sentence_of formula_in bytes alike read
 read_line (hypothesis x) h = rw (before_feed_ended (spelling x), read_spelling x h)
 read_line (query x) h = rw (before_feed_ended (spelling x), read_spelling x h)
 
@@ -70,23 +71,23 @@ Spells line s = (line ≡ line_of s) × (is_named (formula_in s) ≡ true)
 
 -- what stands behind the opening of a letter's lines is read as that letter's sentence
 letter_read : (letter : Formula → Sentence) (start text : List ℕ) (s : Sentence)
-    → ((x : Formula) → is_named x ≡ true → Spells (start ++ (spelling x ++ (line_feed ∷ []))) (letter x)) → read letter (before_feed text) ≡ some s
+    → ((x : Formula) → is_named x ≡ true → Spells (start ++ (spelling x ++ (line_feed ∷ []))) (letter x)) → read letter (before_feed text) ≡ Some s
     → Spells (start ++ text) s
-unfolding read says
+unfolding read
 letter_read letter start text s spells h =
     let inner = from_some (read letter) refl (before_feed text) s h in
-    let formula = from_some (says letter) refl (formula_of inner.0) s inner.2 in
+    let formula = from_some (option_map letter) refl (formula_of inner.0) s inner.2 in
     let spelled = spelling_read inner.0 formula.0 formula.1 in
     subst₂ (λ t r. Spells (start ++ t) r) (sym (ended_before_feed text inner.0 inner.1 ∙ ap (λ t. t ++ (line_feed ∷ [])) spelled.0))
-    (some-injective (letter formula.0) s formula.2) (spells formula.0 spelled.1)
+    (same_Some (letter formula.0) s formula.2) (spells formula.0 spelled.1)
 
-pub line_read : (line : List ℕ) (s : Sentence) → sentence_of line ≡ some s → (line ≡ line_of s) × (is_named (formula_in s) ≡ true)
+pub line_read : (line : List ℕ) (s : Sentence) → sentence_of line ≡ Some s → (line ≡ line_of s) × (is_named (formula_in s) ≡ true)
 unfolding sentence_of formula_in
-line_read [] s h = absurd (none-ne-some s h)
-line_read (a ∷ []) s h = absurd (none-ne-some s h)
+line_read [] s h = absurd (none-some s h)
+line_read (a ∷ []) s h = absurd (none-some s h)
 line_read (a ∷ (b ∷ text)) s h =
     picked_alike (λ start. Spells (start ++ text) s) (a ∷ (b ∷ [])) (bytes "H ") h
     (letter_read hypothesis (bytes "H ") text s (λ x named. (refl, named)))
     λ h. picked_alike (λ start. Spells (start ++ text) s) (a ∷ (b ∷ [])) (bytes "Q ") h
     (letter_read query (bytes "Q ") text s (λ x named. (refl, named)))
-    λ e. absurd (none-ne-some s e)
+    λ e. absurd (none-some s e)

@@ -13,13 +13,12 @@ use lib.ListN.{length, length-append}
 use lib.Dec.{ltb}
 use borrow.Author.Tests.{ltb-false}
 use Rattle.infon.specs.Formula.{Formula, True, name, and, implies, quoted}
-use Rattle.infon.specs.declared.Verdict.TheVariants.{Passed}
-use Rattle.infon.specs.Codes.{when}
+use Rattle.infon.specs.Codes.{when, passed}
 use Rattle.infon.specs.Policy.{Sentence, hypothesis, query, Entry, formula_in, hypotheses_of, queries_of}
 use Rattle.infon.specs.Listing.{Prefix, wrap, weakened, weakened_bases, is_listed, enlist, list_from, list_of, most_listed, code5_from, code5}
 use Rattle.infon.specs.Calculus.{Weaker, end, unchanged}
 use Rattle.infon.specs.Rules.{Shape, truth, primitive, conjunction, implication, shape_under, shape_of, core_of, weakenings, numbered}
-use Rattle.infon.proofs.Rows.{decided}
+use Rattle.std.proofs.lemmas.Bool.{cases_Bool}
 use Rattle.infon.proofs.Locality.{Closed}
 use Rattle.infon.proofs.Tried.{when_passed, and_then_passed}
 use Rattle.infon.proofs.Prefixes.{listed_mem, mem_listed, shape_wrap, shape_wrap_and, shape_wrap_implies, mem_weakened, weakened_mem, weaker_weakenings, weakened_twice}
@@ -64,7 +63,7 @@ enlist_one_cases : (fs : List Formula) (x : Formula)
     → (Memᴰ x fs × (enlist_one fs x ≡ fs)) ⊎ ((Memᴰ x fs → ⊥) × (enlist_one fs x ≡ fs ++ (x ∷ [])))
 enlist_one_cases fs x =
     ⊎_elim (λ old. inl (listed_mem x fs old, rw old)) (λ new. inr (λ m. true≢false (sym (mem_listed m) ∙ new), rw new))
-    (decided (is_listed x fs))
+    (cases_Bool (is_listed x fs))
 
 enlist_one_begins : (fs : List Formula) (x : Formula) → Begins fs (enlist_one fs x)
 enlist_one_begins fs x =
@@ -345,7 +344,7 @@ pub numbered_injective : (entries : List Entry) (i j : ℕ) → i < length (list
 numbered_injective entries = distinct_numbers (list_of entries) (list_of_distinct entries)
 
 -- where code 5 is not given, the list is short enough
-code5_from_passed : (fs : List Formula) (es : List Entry) → length fs ≤ most_listed → code5_from fs es ≡ Passed
+code5_from_passed : (fs : List Formula) (es : List Entry) → length fs ≤ most_listed → code5_from fs es ≡ passed
     → length (list_from fs es) ≤ most_listed
 unfolding code5_from list_from
 code5_from_passed fs [] few h = few
@@ -354,6 +353,6 @@ code5_from_passed fs (e ∷ rest) few h =
     let both = and_then_passed (when (ltb most_listed (length now)) 5 e.start) (code5_from now rest) h in
     code5_from_passed now rest (ltb-false most_listed (length now) (when_passed (ltb most_listed (length now)) 5 e.start both.0)) both.1
 
-pub code5_passed : (entries : List Entry) → code5 entries ≡ Passed → length (list_of entries) ≤ 4096
+pub code5_passed : (entries : List Entry) → code5 entries ≡ passed → length (list_of entries) ≤ 4096
 unfolding code5 list_of most_listed
 code5_passed entries h = code5_from_passed [] entries zero-le h

@@ -10,7 +10,7 @@ use mathlib.Core.List.{List, [], ◌∷◌, reverse_aux, reverse, Memᴰ}
 use Rattle.infon.specs.Formula.{Quotation, Formula, True, name, and, implies, quoted}
 use Rattle.infon.specs.Listing.{Prefix, wrap}
 use Rattle.infon.specs.Calculus.{under, Weaker, unchanged, Derives, hypothesis, given, weaken, left, right, both, apply, attach}
-use Rattle.infon.proofs.Rows.{and_true, true_and, decided}
+use Rattle.std.proofs.lemmas.Bool.{cond-true, cond-false, and_parts, and_from, cases_Bool}
 use Rattle.infon.proofs.Prefixes.{weaker_reverse}
 
 -- what is on the list, with its parts and everything weaker
@@ -47,22 +47,16 @@ value listed recorded w (implies x y) =
     cond (listed (wrap w (implies x y))) (recorded (wrap w (implies x y))) (value listed recorded w y)
 value listed recorded w (quoted q x) = value listed recorded (q ∷ w) x
 
-cond_true : {A : Type 0} (b : Bool) (x y : A) → b ≡ true → cond b x y ≡ x
-cond_true b x y h = rw h
-
-cond_false : {A : Type 0} (b : Bool) (x y : A) → b ≡ false → cond b x y ≡ y
-cond_false b x y h = rw h
-
 module _ (hyps : List Formula) (listed recorded : Formula → Bool) (closed : Closed listed) (complete : Complete hyps listed recorded) where
   -- a listed formula's value is whether it is recorded
   value_listed : (w : Prefix) (x : Formula) → listed (wrap w x) ≡ true → value listed recorded w x ≡ recorded (wrap w x)
   unfolding value wrap
-  value_listed w True h = cond_true (listed (wrap w True)) (recorded (wrap w True)) true h
-  value_listed w (name a) h = cond_true (listed (wrap w (name a))) (recorded (wrap w (name a))) false h
+  value_listed w True h = cond-true (listed (wrap w True)) (recorded (wrap w True)) true h
+  value_listed w (name a) h = cond-true (listed (wrap w (name a))) (recorded (wrap w (name a))) false h
   value_listed w (and x y) h =
-      cond_true (listed (wrap w (and x y))) (recorded (wrap w (and x y))) (value listed recorded w x && value listed recorded w y) h
+      cond-true (listed (wrap w (and x y))) (recorded (wrap w (and x y))) (value listed recorded w x && value listed recorded w y) h
   value_listed w (implies x y) h =
-      cond_true (listed (wrap w (implies x y))) (recorded (wrap w (implies x y))) (value listed recorded w y) h
+      cond-true (listed (wrap w (implies x y))) (recorded (wrap w (implies x y))) (value listed recorded w y) h
   value_listed w (quoted q x) h = value_listed (q ∷ w) x h
 
   value_under : (w : Prefix) (pref : List Quotation) (x : Formula)
@@ -76,13 +70,13 @@ module _ (hyps : List Formula) (listed recorded : Formula → Bool) (closed : Cl
       → value listed recorded w (and x y) ≡ value listed recorded w x && value listed recorded w y
   unfolding value
   value_and w x y h =
-      cond_false (listed (wrap w (and x y))) (recorded (wrap w (and x y))) (value listed recorded w x && value listed recorded w y) h
+      cond-false (listed (wrap w (and x y))) (recorded (wrap w (and x y))) (value listed recorded w x && value listed recorded w y) h
 
   value_implies : (w : Prefix) (x y : Formula) → listed (wrap w (implies x y)) ≡ false
       → value listed recorded w (implies x y) ≡ value listed recorded w y
   unfolding value
   value_implies w x y h =
-      cond_false (listed (wrap w (implies x y))) (recorded (wrap w (implies x y))) (value listed recorded w y) h
+      cond-false (listed (wrap w (implies x y))) (recorded (wrap w (implies x y))) (value listed recorded w y) h
 
   recorded_value : (w : Prefix) (x : Formula) → listed (wrap w x) ≡ true → recorded (wrap w x) ≡ true → value listed recorded w x ≡ true
   recorded_value w x l r = value_listed w x l ∙ r
@@ -95,22 +89,22 @@ module _ (hyps : List Formula) (listed recorded : Formula → Bool) (closed : Cl
   value_given w =
       ⊎_elim
       (λ l. recorded_value w True l (complete.by_given w l))
-      (λ (u : listed (wrap w True) ≡ false). cond_false (listed (wrap w True)) (recorded (wrap w True)) true u)
-      (decided (listed (wrap w True)))
+      (λ (u : listed (wrap w True) ≡ false). cond-false (listed (wrap w True)) (recorded (wrap w True)) true u)
+      (cases_Bool (listed (wrap w True)))
 
   value_left : (w : Prefix) (x y : Formula) → value listed recorded w (and x y) ≡ true → value listed recorded w x ≡ true
   value_left w x y v =
       ⊎_elim
       (λ l. recorded_value w x (closed.and_left w x y l) (complete.by_left w x y (value_recorded w (and x y) l v) (closed.and_left w x y l)))
-      (λ u. (and_true (value listed recorded w x) (value listed recorded w y) (sym (value_and w x y u) ∙ v)).0)
-      (decided (listed (wrap w (and x y))))
+      (λ u. (and_parts (value listed recorded w x) (value listed recorded w y) (sym (value_and w x y u) ∙ v)).0)
+      (cases_Bool (listed (wrap w (and x y))))
 
   value_right : (w : Prefix) (x y : Formula) → value listed recorded w (and x y) ≡ true → value listed recorded w y ≡ true
   value_right w x y v =
       ⊎_elim
       (λ l. recorded_value w y (closed.and_right w x y l) (complete.by_right w x y (value_recorded w (and x y) l v) (closed.and_right w x y l)))
-      (λ u. (and_true (value listed recorded w x) (value listed recorded w y) (sym (value_and w x y u) ∙ v)).1)
-      (decided (listed (wrap w (and x y))))
+      (λ u. (and_parts (value listed recorded w x) (value listed recorded w y) (sym (value_and w x y u) ∙ v)).1)
+      (cases_Bool (listed (wrap w (and x y))))
 
   value_both : (w : Prefix) (x y : Formula) → value listed recorded w x ≡ true → value listed recorded w y ≡ true
       → value listed recorded w (and x y) ≡ true
@@ -119,8 +113,8 @@ module _ (hyps : List Formula) (listed recorded : Formula → Bool) (closed : Cl
       (λ l.
       recorded_value w (and x y) l
       (complete.by_both w x y (value_recorded w x (closed.and_left w x y l) vx) (value_recorded w y (closed.and_right w x y l) vy) l))
-      (λ u. value_and w x y u ∙ true_and vx vy)
-      (decided (listed (wrap w (and x y))))
+      (λ u. value_and w x y u ∙ and_from _ _ vx vy)
+      (cases_Bool (listed (wrap w (and x y))))
 
   value_apply : (w : Prefix) (x y : Formula) → value listed recorded w x ≡ true → value listed recorded w (implies x y) ≡ true
       → value listed recorded w y ≡ true
@@ -131,7 +125,7 @@ module _ (hyps : List Formula) (listed recorded : Formula → Bool) (closed : Cl
       recorded_value w y ly
       (complete.by_apply w x y (value_recorded w x (closed.implies_left w x y l) vx) (value_recorded w (implies x y) l v) ly))
       (λ u. sym (value_implies w x y u) ∙ v)
-      (decided (listed (wrap w (implies x y))))
+      (cases_Bool (listed (wrap w (implies x y))))
 
   value_attach : (w : Prefix) (x y : Formula) → value listed recorded w y ≡ true → value listed recorded w (implies x y) ≡ true
   value_attach w x y vy =
@@ -140,7 +134,7 @@ module _ (hyps : List Formula) (listed recorded : Formula → Bool) (closed : Cl
       recorded_value w (implies x y) l
       (complete.by_attach w x y (value_recorded w y (closed.implies_right w x y l) vy) l))
       (λ u. value_implies w x y u ∙ vy)
-      (decided (listed (wrap w (implies x y))))
+      (cases_Bool (listed (wrap w (implies x y))))
 
   -- rule 3, by induction on the formula: the stronger one may be off the list and the weaker one on it
   value_weaken : (v w : Prefix) (x : Formula) → Weaker v w → value listed recorded w x ≡ true → value listed recorded v x ≡ true
@@ -152,8 +146,8 @@ module _ (hyps : List Formula) (listed recorded : Formula → Bool) (closed : Cl
       let lv = closed.weaker_listed v w (name a) le l in
       recorded_value v (name a) lv (complete.by_weaken v w (name a) le (value_recorded w (name a) l h) lv))
       (λ (u : listed (wrap w (name a)) ≡ false).
-      absurd (false≢true (sym (cond_false (listed (wrap w (name a))) (recorded (wrap w (name a))) false u) ∙ h)))
-      (decided (listed (wrap w (name a))))
+      absurd (false≢true (sym (cond-false (listed (wrap w (name a))) (recorded (wrap w (name a))) false u) ∙ h)))
+      (cases_Bool (listed (wrap w (name a))))
   value_weaken v w (and x y) le h =
       value_both v x y (value_weaken v w x le (value_left w x y h)) (value_weaken v w y le (value_right w x y h))
   value_weaken v w (implies x y) le h =
@@ -162,7 +156,7 @@ module _ (hyps : List Formula) (listed recorded : Formula → Bool) (closed : Cl
       let lv = closed.weaker_listed v w (implies x y) le l in
       recorded_value v (implies x y) lv (complete.by_weaken v w (implies x y) le (value_recorded w (implies x y) l h) lv))
       (λ u. value_attach v x y (value_weaken v w y le (sym (value_implies w x y u) ∙ h)))
-      (decided (listed (wrap w (implies x y))))
+      (cases_Bool (listed (wrap w (implies x y))))
   value_weaken v w (quoted q x) le h = value_weaken (q ∷ v) (q ∷ w) x (unchanged q le) h
 
   derives_value : (z : Formula) → Derives hyps z → value listed recorded [] z ≡ true

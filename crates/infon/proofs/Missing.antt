@@ -6,8 +6,9 @@ use native.Mathlib.Nat.{zero-min, suc-min-suc, min-zero}
 use native.Mathlib.Omega.{arith}
 use mathlib.Core.Path.{◌≡◌, refl, sym, ◌∙◌, ap, subst}
 use mathlib.Core.Logic.{◌⊎◌, inl, inr, ⊎_elim, ◌↔◌}
-use mathlib.Core.Bool.{Bool, true, false, ◌&&◌, ◌||◌, not, or_assoc, or-true, or-false, and-false, false≢true}
-use mathlib.Core.Option.{Option, none, some}
+use mathlib.Core.Bool.{Bool, true, false, ◌&&◌, ◌||◌, not, or-true, or-false, and-false, false≢true}
+use Rattle.std.proofs.lemmas.List.Folds.{list_any-append}
+use Rattle.std.specs.Prelude.{Option, None, Some}
 use mathlib.Core.List.{List, [], ◌∷◌, ◌++◌, append-nil, append_assoc}
 use lib.ListN.{length, length-append}
 use lib.Dec.{eqb}
@@ -17,19 +18,14 @@ use Rattle.infon.specs.Bytes.{some_of}
 use Rattle.infon.specs.Formula.{Formula}
 use Rattle.infon.specs.Calculus.{Derives}
 use Rattle.infon.specs.Rules.{numbered}
-use Rattle.infon.specs.Journal.{is_recorded, is_good, numbers_from, next, is_finished, has_none, grown}
+use Rattle.infon.specs.Journal.{is_recorded, is_good, numbers_from, next, is_finished, grown}
+use Rattle.std.specs.Prelude.{is_none}
 use Rattle.infon.specs.Run.{Missing, no_more, recorded, underivable, missing}
-use Rattle.infon.proofs.Rows.{decided}
+use Rattle.std.proofs.lemmas.Bool.{cases_Bool}
 use Rattle.infon.proofs.Counting.{count_of, count_passed, count_failed, count_alike, count_at_most, count_gained, from_above, from_length}
 use Rattle.infon.proofs.Grown.{GoodRow, stop, more, grown_good, good_append, finished_grown, grown_full, grown_some, finished_add, next_good}
 use Rattle.infon.proofs.Sound.{Sound, good_is, good_derives, premise_derived, sound_more, sound_row, sound_empty}
 use Rattle.infon.proofs.Finished.{List-of, derivable_recorded_number}
-
-some_of_append : {A : Type 0} (test : A → Bool) (xs ys : List A) → some_of test (xs ++ ys) ≡ some_of test xs || some_of test ys
-unfolding some_of
-some_of_append test [] ys = refl
-some_of_append test (x ∷ xs) ys =
-    ap (λ (b : Bool). test x || b) (some_of_append test xs ys) ∙ sym (or_assoc (test x) (some_of test xs) (some_of test ys))
 
 count_nothing : (ns : List ℕ) → count_of (λ (n : ℕ). false) ns ≡ 0
 unfolding count_of
@@ -39,7 +35,7 @@ count_nothing (n ∷ rest) = count_nothing rest
 pub recorded_more : (n : ℕ) (done : List Record) (r : Record) → is_recorded n (done ++ (r ∷ [])) ≡ is_recorded n done || eqb n r.formula
 unfolding is_recorded some_of
 recorded_more n done r =
-    some_of_append (λ (s : Record). eqb n s.formula) done (r ∷ [])
+    list_any-append (λ (s : Record). eqb n s.formula) done (r ∷ [])
     ∙ ap (λ (b : Bool). some_of (λ (s : Record). eqb n s.formula) done || b) (or-false (eqb n r.formula))
 
 pub recorded_now : (done : List Record) (r : Record) → is_recorded r.formula (done ++ (r ∷ [])) ≡ true
@@ -93,13 +89,13 @@ module _ (hyps fs : List Formula) where
       let more = grown hyps fs done n in
       rw (← length-append done more) (row_short (done ++ more) (good_append hyps fs [] done more row (grown_good hyps fs done n)))
 
-  finished_or_next : (done : List Record) → (is_finished hyps fs done ≡ true) ⊎ ((r : Record) × (next hyps fs done ≡ some r))
-  unfolding is_finished has_none
+  finished_or_next : (done : List Record) → (is_finished hyps fs done ≡ true) ⊎ ((r : Record) × (next hyps fs done ≡ Some r))
+  unfolding is_finished
   finished_or_next done = by (next hyps fs done) refl
     where
-      by : (o : Option Record) → next hyps fs done ≡ o → (has_none (next hyps fs done) ≡ true) ⊎ ((r : Record) × (next hyps fs done ≡ some r))
-      by none e = inl (ap has_none e)
-      by (some r) e = inr (r, e)
+      by : (o : Option Record) → next hyps fs done ≡ o → (is_none (next hyps fs done) ≡ true) ⊎ ((r : Record) × (next hyps fs done ≡ Some r))
+      by None e = inl (ap is_none e)
+      by (Some r) e = inr (r, e)
 
   -- what a limit of L or more leaves is finished
   pub grown_all : (done : List Record) (n : ℕ) → GoodRow hyps fs [] done → length fs ≤ n
@@ -143,7 +139,7 @@ module _ (hyps fs : List Formula) (lists : List-of hyps fs) where
       (λ (yes : is_recorded n final ≡ true).
       rw (yes, derivable_recorded_number hyps fs lists done n sound finished low (premise_derived hyps fs final n final_sound yes)))
       (λ (other : is_recorded n final ≡ false). rw other)
-      (decided (is_recorded n final)))
+      (cases_Bool (is_recorded n final)))
       ∙ count_nothing (numbers_from 0 (length fs))
 
   one_less : (done : List Record) (r : Record) → Sound hyps fs done → is_good hyps fs done r ≡ true
@@ -198,7 +194,7 @@ module _ (hyps fs : List Formula) (lists : List-of hyps fs) where
       (λ (yes : is_recorded i final ≡ true).
       absurd (h (subst (Derives hyps) (sym (here_at i x later at)) (premise_derived hyps fs final i final_sound yes))))
       (λ (other : is_recorded i final ≡ false). rw other)
-      (decided (is_recorded i final))))
+      (cases_Bool (is_recorded i final))))
   missing_counted done i rest m at size (missing j x later k fresh d tail) =
       ap suc (missing_counted done (suc i) later k (next_at i x later at) (omega arith) tail)
       ∙ sym (count_passed (is_missing done) i (numbers_from (suc i) (length later))
@@ -228,8 +224,8 @@ module _ (hyps fs : List Formula) (lists : List-of hyps fs) where
             (sym other ∙ derivable_final i (omega arith) (subst (Derives hyps) (here_at i x rest at) d)))
             later.1,
       ))
-      (decided (is_recorded i final)))
-      (decided (is_recorded i done))
+      (cases_Bool (is_recorded i final)))
+      (cases_Bool (is_recorded i done))
 
   missing_is : (done : List Record) (m : ℕ) → Missing hyps done 0 fs m → m ≡ missing_count done
   unfolding missing_count

@@ -5,7 +5,7 @@ use Prim.Native.Nat.{ℕ}
 use mathlib.Core.Path.{◌≡◌, refl, sym, ◌∙◌, ap}
 use mathlib.Core.Logic.{⊎_elim, ◌↔◌}
 use mathlib.Core.Bool.{Bool, true, false, cond}
-use mathlib.Core.Option.{Option, none, some}
+use Rattle.std.specs.Prelude.{Option, None, Some}
 use mathlib.Core.List.Memᴰ
 use mathlib.Core.List.{List, [], ◌∷◌, map, Memᴰ}
 use Rattle.infon.specs.Bytes.{bytes, every}
@@ -13,7 +13,8 @@ use Rattle.infon.specs.Formula.{Quotation, Formula, True, name, and, implies, qu
 use Rattle.infon.specs.Policy.{Line, Sentence, Entry, with_entry, entries_from, entries_of, lines_of, sentence_of, formula_in, hypotheses_of}
 use Rattle.infon.specs.Listing.{Prefix, wrap, weakened, weakened_bases, list_of}
 use Rattle.infon.specs.Calculus.{under, Weaker, end, unchanged, lowered, Derives, hypothesis, given, weaken, left, right, both, apply, attach, through}
-use Rattle.infon.proofs.Rows.{and_true, true_and, decided, in_three}
+use Rattle.std.proofs.lemmas.Bool.{and_parts, and_from, cases_Bool}
+use Rattle.infon.proofs.Rows.{in_three}
 use Rattle.infon.proofs.Words.{every_append}
 use Rattle.infon.proofs.Prefixes.{mem_weakened}
 use Rattle.infon.proofs.Lines.{line_read}
@@ -26,15 +27,15 @@ principals_named w = every (λ (q : Quotation). is_name q.principal) w
 weaker_named : {v w : Prefix} → Weaker v w → principals_named w ≡ true → principals_named v ≡ true
 unfolding principals_named every
 weaker_named end h = refl
-weaker_named (unchanged q le) h = let parts = and_true (is_name q.principal) _ h in true_and parts.0 (weaker_named le parts.1)
-weaker_named (lowered p le) h = let parts = and_true (is_name p) _ h in true_and parts.0 (weaker_named le parts.1)
+weaker_named (unchanged q le) h = let parts = and_parts (is_name q.principal) _ h in and_from _ _ parts.0 (weaker_named le parts.1)
+weaker_named (lowered p le) h = let parts = and_parts (is_name p) _ h in and_from _ _ parts.0 (weaker_named le parts.1)
 
 wrap_named : (w : Prefix) (x : Formula) → principals_named w ≡ true → is_named x ≡ true → is_named (wrap w x) ≡ true
 unfolding principals_named every wrap is_named
 wrap_named [] x hw hx = hx
 wrap_named (q ∷ w) x hw hx =
-    let parts = and_true (is_name q.principal) (principals_named w) hw in
-    wrap_named w (quoted q x) parts.1 (true_and parts.0 hx)
+    let parts = and_parts (is_name q.principal) (principals_named w) hw in
+    wrap_named w (quoted q x) parts.1 (and_from _ _ parts.0 hx)
 
 weakened_named : (p : Prefix) (b z : Formula) → principals_named p ≡ true → is_named b ≡ true → Memᴰ z (weakened p b) → is_named z ≡ true
 weakened_named p b z hp hb m =
@@ -46,24 +47,24 @@ unfolding weakened_bases is_named principals_named every
 bases_named p True z hp hx m = weakened_named p True z hp hx m
 bases_named p (name a) z hp hx m = weakened_named p (name a) z hp hx m
 bases_named p (and x y) z hp hx m =
-    let parts = and_true (is_named x) (is_named y) hx in
+    let parts = and_parts (is_named x) (is_named y) hx in
     in_three (weakened p (and x y)) (weakened_bases p x) (weakened_named p (and x y) z hp hx)
     (bases_named p x z hp parts.0) (bases_named p y z hp parts.1) m
 bases_named p (implies x y) z hp hx m =
-    let parts = and_true (is_named x) (is_named y) hx in
+    let parts = and_parts (is_named x) (is_named y) hx in
     in_three (weakened p (implies x y)) (weakened_bases p x) (weakened_named p (implies x y) z hp hx)
     (bases_named p x z hp parts.0) (bases_named p y z hp parts.1) m
 bases_named p (quoted q x) z hp hx m =
-    let parts = and_true (is_name q.principal) (is_named x) hx in
-    bases_named (q ∷ p) x z (true_and parts.0 hp) parts.1 m
+    let parts = and_parts (is_name q.principal) (is_named x) hx in
+    bases_named (q ∷ p) x z (and_from _ _ parts.0 hp) parts.1 m
 
 -- the formulas of a file's entries are of the language
 entry_named : (start : ℕ) (text : List ℕ) (o : Option Sentence) (rest : List Entry) → sentence_of text ≡ o
     → ((e : Entry) → Memᴰ e rest → is_named (formula_in e.sentence) ≡ true)
     → (e : Entry) → Memᴰ e (with_entry start o rest) → is_named (formula_in e.sentence) ≡ true
 unfolding with_entry
-entry_named start text none rest read later e m = later e m
-entry_named start text (some s) rest read later e m =
+entry_named start text None rest read later e m = later e m
+entry_named start text (Some s) rest read later e m =
     ⊎_elim (λ same. ap (λ (f : Entry). is_named (formula_in f.sentence)) same ∙ (line_read text s read).1)
     (λ (i : Memᴰ e rest). later e i)
     (Memᴰ.cases_cons m)
@@ -107,7 +108,7 @@ plain (quoted q x) = quoted (plain_place q) (plain x)
 
 word_named : (a : List ℕ) → is_name (plain_word a) ≡ true
 unfolding plain_word is_name is_name_byte every bytes
-word_named a = ⊎_elim (λ (h : is_name a ≡ true). rw h h) (λ (h : is_name a ≡ false). rw h) (decided (is_name a))
+word_named a = ⊎_elim (λ (h : is_name a ≡ true). rw h h) (λ (h : is_name a ≡ false). rw h) (cases_Bool (is_name a))
 
 word_same : (a : List ℕ) → is_name a ≡ true → plain_word a ≡ a
 unfolding plain_word
@@ -117,22 +118,22 @@ plain_named : (x : Formula) → is_named (plain x) ≡ true
 unfolding plain plain_place is_named
 plain_named True = refl
 plain_named (name a) = word_named a
-plain_named (and x y) = true_and (plain_named x) (plain_named y)
-plain_named (implies x y) = true_and (plain_named x) (plain_named y)
-plain_named (quoted q x) = true_and (word_named q.principal) (plain_named x)
+plain_named (and x y) = and_from _ _ (plain_named x) (plain_named y)
+plain_named (implies x y) = and_from _ _ (plain_named x) (plain_named y)
+plain_named (quoted q x) = and_from _ _ (word_named q.principal) (plain_named x)
 
 plain_same : (x : Formula) → is_named x ≡ true → plain x ≡ x
 unfolding plain plain_place is_named
 plain_same True h = refl
 plain_same (name a) h = ap name (word_same a h)
 plain_same (and x y) h =
-    let parts = and_true (is_named x) (is_named y) h in
+    let parts = and_parts (is_named x) (is_named y) h in
     rw (plain_same x parts.0, plain_same y parts.1)
 plain_same (implies x y) h =
-    let parts = and_true (is_named x) (is_named y) h in
+    let parts = and_parts (is_named x) (is_named y) h in
     rw (plain_same x parts.0, plain_same y parts.1)
 plain_same (quoted q x) h =
-    let parts = and_true (is_name q.principal) (is_named x) h in
+    let parts = and_parts (is_name q.principal) (is_named x) h in
     rw (word_same q.principal parts.0, plain_same x parts.1)
 
 plain_under : (pref : List Quotation) (x : Formula) → plain (under pref x) ≡ under (map plain_place pref) (plain x)
@@ -156,36 +157,36 @@ module _ (hyps : List Formula) (named : (h : Formula) → Memᴰ h hyps → is_n
 
   plainly : (z : Formula) → Derives hyps z → Plainly (plain z)
   unfolding plain through every
-  plainly z (hypothesis x m) = rw (plain_same x (named x m)) (hypothesis x m, true_and (named x m) refl)
-  plainly z (given pref) = rw (plain_under pref True) (given (map plain_place pref), true_and (reached pref True) refl)
+  plainly z (hypothesis x m) = rw (plain_same x (named x m)) (hypothesis x m, and_from _ _ (named x m) refl)
+  plainly z (given pref) = rw (plain_under pref True) (given (map plain_place pref), and_from _ _ (reached pref True) refl)
   plainly z (weaken weak strong x le d) =
       let from = rw (plain_under strong x) at (plainly (under strong x) d) in
       rw (plain_under weak x)
-      (weaken (map plain_place weak) (map plain_place strong) (plain x) (plain_weaker le) from.0, true_and (reached weak x) from.1)
+      (weaken (map plain_place weak) (map plain_place strong) (plain x) (plain_weaker le) from.0, and_from _ _ (reached weak x) from.1)
   plainly z (left pref x y d) =
       let from = rw (plain_under pref (and x y)) at (plainly (under pref (and x y)) d) in
-      rw (plain_under pref x) (left (map plain_place pref) (plain x) (plain y) from.0, true_and (reached pref x) from.1)
+      rw (plain_under pref x) (left (map plain_place pref) (plain x) (plain y) from.0, and_from _ _ (reached pref x) from.1)
   plainly z (right pref x y d) =
       let from = rw (plain_under pref (and x y)) at (plainly (under pref (and x y)) d) in
-      rw (plain_under pref y) (right (map plain_place pref) (plain x) (plain y) from.0, true_and (reached pref y) from.1)
+      rw (plain_under pref y) (right (map plain_place pref) (plain x) (plain y) from.0, and_from _ _ (reached pref y) from.1)
   plainly z (both pref x y d e) =
       let one = rw (plain_under pref x) at (plainly (under pref x) d) in
       let other = rw (plain_under pref y) at (plainly (under pref y) e) in
       rw (plain_under pref (and x y)) (
         both (map plain_place pref) (plain x) (plain y) one.0 other.0,
-        true_and (reached pref (and x y)) (every_append is_named (through one.0) (through other.0) ∙ true_and one.1 other.1),
+        and_from _ _ (reached pref (and x y)) (every_append is_named (through one.0) (through other.0) ∙ and_from _ _ one.1 other.1),
       )
   plainly z (apply pref x y d e) =
       let one = rw (plain_under pref x) at (plainly (under pref x) d) in
       let other = rw (plain_under pref (implies x y)) at (plainly (under pref (implies x y)) e) in
       rw (plain_under pref y) (
         apply (map plain_place pref) (plain x) (plain y) one.0 other.0,
-        true_and (reached pref y) (every_append is_named (through one.0) (through other.0) ∙ true_and one.1 other.1),
+        and_from _ _ (reached pref y) (every_append is_named (through one.0) (through other.0) ∙ and_from _ _ one.1 other.1),
       )
   plainly z (attach pref x y d) =
       let from = rw (plain_under pref y) at (plainly (under pref y) d) in
       rw (plain_under pref (implies x y))
-      (attach (map plain_place pref) (plain x) (plain y) from.0, true_and (reached pref (implies x y)) from.1)
+      (attach (map plain_place pref) (plain x) (plain y) from.0, and_from _ _ (reached pref (implies x y)) from.1)
 
 -- a formula of the language derives from a file exactly if it does by formulas of the language alone
 pub derives_plainly : (file : List ℕ) (z : Formula) → is_named z ≡ true

@@ -4,7 +4,8 @@ use Prim.Native.Nat.{ℕ, ◌<◌}
 use mathlib.Core.Path.{◌≡◌, refl, sym, ◌∙◌, ap, subst}
 use mathlib.Core.Logic.{◌⊎◌, inl, inr, ⊎_elim}
 use mathlib.Core.Bool.{Bool, true, false, cond, ◌&&◌, ◌||◌, or-false, false≢true}
-use mathlib.Core.List.{List, [], ◌∷◌, ◌++◌, append-nil, append_assoc, Memᴰ, nil≢cons, cons≢nil, head-eq_of_cons-eq, tail-eq_of_cons-eq}
+use mathlib.Core.List.Memᴰ
+use mathlib.Core.List.{List, [], ◌∷◌, ◌++◌, append-nil, append_assoc, Memᴰ, nil≢cons, head-eq_of_cons-eq, tail-eq_of_cons-eq}
 use lib.ListN.{length}
 use lib.Dec.{eqb}
 use borrow.Author.Tests.{eqb-true, eq-eqb, lt-ltb}
@@ -15,7 +16,8 @@ use Rattle.infon.specs.Bytes.{some_of}
 use Rattle.infon.specs.Formula.{Formula}
 use Rattle.infon.specs.Journal.{is_recorded, is_for, premises_in, is_good}
 use Rattle.infon.specs.Reasons.{is_premise, is_used, reasons, Within, at_end, taken, passed, IsChain}
-use Rattle.infon.proofs.Rows.{and_true, true_and, or_true, true_or, or_false_both, decided, not_true_false, some_of_witness, witness_some_of}
+use Rattle.std.proofs.lemmas.Bool.{and_parts, and_from, or_right, or_cases, or_parts, cases_Bool, false_from_ne_true}
+use Rattle.infon.proofs.Rows.{some_of_witness, witness_some_of}
 use Rattle.infon.proofs.Sound.{by_recorded}
 use Rattle.infon.proofs.Grown.{GoodRow, stop, more, good_parts, good_first, good_fresh, recorded_by}
 
@@ -45,9 +47,9 @@ reasoned_is fs x rest row (left_out r later behind e m) = let same = reasoned_is
 
 one_of_two : (p q s : ℕ) (done : List Record) → is_recorded q done && is_recorded s done ≡ true → eqb p q || eqb p s ≡ true → is_recorded p done ≡ true
 one_of_two p q s done all one =
-    let both = and_true (is_recorded q done) (is_recorded s done) all in
+    let both = and_parts (is_recorded q done) (is_recorded s done) all in
     ⊎_elim (λ (e : eqb p q ≡ true). rw (eqb-true p q e) both.0) (λ (e : eqb p s ≡ true). rw (eqb-true p s e) both.1)
-    (or_true (eqb p q) (eqb p s) one)
+    (or_cases (eqb p q) (eqb p s) one)
 
 -- a premise of a way is recorded where all are
 premise_recorded : (p : ℕ) (w : Way) (done : List Record) → premises_in w done ≡ true → is_premise p w ≡ true → is_recorded p done ≡ true
@@ -69,8 +71,8 @@ all_recorded Given done each = refl
 all_recorded (Weaken p) done each = each p (eq-eqb p p refl)
 all_recorded (Left p) done each = each p (eq-eqb p p refl)
 all_recorded (Right p) done each = each p (eq-eqb p p refl)
-all_recorded (Both p q) done each = true_and (each p (rw (eq-eqb p p refl))) (each q (true_or (eqb q p) (eq-eqb q q refl)))
-all_recorded (Apply p q) done each = true_and (each p (rw (eq-eqb p p refl))) (each q (true_or (eqb q p) (eq-eqb q q refl)))
+all_recorded (Both p q) done each = and_from _ _ (each p (rw (eq-eqb p p refl))) (each q (or_right (eqb q p) _ (eq-eqb q q refl)))
+all_recorded (Apply p q) done each = and_from _ _ (each p (rw (eq-eqb p p refl))) (each q (or_right (eqb q p) _ (eq-eqb q q refl)))
 all_recorded (Attach p) done each = each p (eq-eqb p p refl)
 
 -- the record is for the number
@@ -85,40 +87,40 @@ recorded_cases p one two h =
     let found = some_of_witness test (one ++ two) h in
     ⊎_elim (λ (m : Memᴰ found.0 one). inl (witness_some_of test m found.1.1))
     (λ (m : Memᴰ found.0 two). inr (witness_some_of test m found.1.1))
-    (mathlib.Core.List.Memᴰ.append_cases one found.1.0)
+    (Memᴰ.append_cases one found.1.0)
 
 recorded_first : (p : ℕ) (one two : List Record) → is_recorded p one ≡ true → is_recorded p (one ++ two) ≡ true
 unfolding is_recorded
 recorded_first p one two h =
     let test = records p in
     let found = some_of_witness test one h in
-    witness_some_of test (mathlib.Core.List.Memᴰ.append_left two found.1.0) found.1.1
+    witness_some_of test (Memᴰ.append_left two found.1.0) found.1.1
 
 recorded_second : (p : ℕ) (one two : List Record) → is_recorded p two ≡ true → is_recorded p (one ++ two) ≡ true
 unfolding is_recorded
 recorded_second p one two h =
     let test = records p in
     let found = some_of_witness test two h in
-    witness_some_of test (mathlib.Core.List.Memᴰ.append_right one found.1.0) found.1.1
+    witness_some_of test (Memᴰ.append_right one found.1.0) found.1.1
 
 -- what one record alone records is its own number
 recorded_alone : (p : ℕ) (r : Record) → is_recorded p (r ∷ []) ≡ true → p ≡ r.formula
-recorded_alone p r h = let found = recorded_by p (r ∷ []) h in found.1.1 ∙ ap (λ (q : Record). q.formula) (mathlib.Core.List.Memᴰ.eq_of_singleton found.1.0)
+recorded_alone p r h = let found = recorded_by p (r ∷ []) h in found.1.1 ∙ ap (λ (q : Record). q.formula) (Memᴰ.eq_of_singleton found.1.0)
 
 -- a record within a row stands in it
 within_mem : (row rest : List Record) → Within row rest → (r : Record) → Memᴰ r row → Memᴰ r rest
 within_mem row rest at_end r m = m
-within_mem row rest (taken q one other w) r (mathlib.Core.List.Memᴰ.head e) = mathlib.Core.List.Memᴰ.head e
-within_mem row rest (taken q one other w) r (mathlib.Core.List.Memᴰ.tail m) = mathlib.Core.List.Memᴰ.tail (within_mem one other w r m)
-within_mem row rest (passed q one other w) r m = mathlib.Core.List.Memᴰ.tail (within_mem one other w r m)
+within_mem row rest (taken q one other w) r (Memᴰ.head e) = Memᴰ.head e
+within_mem row rest (taken q one other w) r (Memᴰ.tail m) = Memᴰ.tail (within_mem one other w r m)
+within_mem row rest (passed q one other w) r m = Memᴰ.tail (within_mem one other w r m)
 
 -- where a record stands in a row
 splits : {r : Record} {row : List Record} → Memᴰ r row → (before : List Record) × ((after : List Record) × (row ≡ before ++ (r ∷ after)))
-splits (mathlib.Core.List.Memᴰ.head {xs = rest} e) = ([], (rest, ap (λ (q : Record). q ∷ rest) (sym e)))
-splits (mathlib.Core.List.Memᴰ.tail {x = q} m) = let found = splits m in (q ∷ found.0, (found.1.0, ap (λ (row : List Record). q ∷ row) found.1.1))
+splits (Memᴰ.head {xs = rest} e) = ([], (rest, ap (λ (q : Record). q ∷ rest) (sym e)))
+splits (Memᴰ.tail {x = q} m) = let found = splits m in (q ∷ found.0, (found.1.0, ap (λ (row : List Record). q ∷ row) found.1.1))
 
 stands : (before after : List Record) (r : Record) (row : List Record) → row ≡ before ++ (r ∷ after) → Memᴰ r row
-stands before after r row e = subst (Memᴰ r) (sym e) (mathlib.Core.List.Memᴰ.append_right before (mathlib.Core.List.Memᴰ.head refl))
+stands before after r row e = subst (Memᴰ r) (sym e) (Memᴰ.append_right before (Memᴰ.head refl))
 
 -- a row that ends has one last record
 ends : (row : List Record) (r : Record) → [] ≡ row ++ (r ∷ []) → ⊥
@@ -140,10 +142,10 @@ module _ (hyps fs : List Formula) where
   later_fresh : (done rest : List Record) → GoodRow hyps fs done rest → (r : Record) → Memᴰ r rest
       → (is_recorded r.formula done ≡ true → ⊥) × (r.formula < length fs)
   later_fresh done rest (stop _) r m = elim m [ ]
-  later_fresh done rest (more _ q later good goods) r (mathlib.Core.List.Memᴰ.head e) =
+  later_fresh done rest (more _ q later good goods) r (Memᴰ.head e) =
       let parts = good_parts hyps fs done q good in
       (λ h. false≢true (sym parts.1 ∙ subst (λ (s : Record). is_recorded s.formula done ≡ true) e h), subst (λ (s : Record). s.formula < length fs) (sym e) parts.0)
-  later_fresh done rest (more _ q later good goods) r (mathlib.Core.List.Memᴰ.tail m) =
+  later_fresh done rest (more _ q later good goods) r (Memᴰ.tail m) =
       let found = later_fresh (done ++ (q ∷ [])) later goods r m in
       (λ h. found.0 (recorded_first r.formula done (q ∷ []) h), found.1)
 
@@ -157,11 +159,11 @@ none_behind : (fs : List Formula) (x : Formula) (rest row : List Record) → Rea
 unfolding some_of is_used
 none_behind fs x rest row none_left h = refl
 none_behind fs x rest row (listed r later behind e m) h =
-    let both = or_false_both (is_for fs x r) (some_of (is_for fs x) later) h in
+    let both = or_parts (is_for fs x r) (some_of (is_for fs x) later) h in
     let empty = none_behind fs x later behind m both.1 in
     absurd (false≢true (rw (both.0, empty) at e))
 none_behind fs x rest row (left_out r later behind e m) h =
-    none_behind fs x later behind m (or_false_both (is_for fs x r) (some_of (is_for fs x) later) h).1
+    none_behind fs x later behind m (or_parts (is_for fs x r) (some_of (is_for fs x) later) h).1
 
 -- .. which is listed itself, so that it is last.
 own_listed : (fs : List Formula) (x : Formula) (rest row : List Record) → Reasoned fs x rest row → some_of (is_for fs x) rest ≡ true
@@ -175,9 +177,9 @@ own_listed fs x rest row (listed q later behind e m) h =
     (q ∷ found.0, (found.1.0, (ap (λ (rest : List Record). q ∷ rest) found.1.1.0, found.1.1.1))))
     (λ (none : some_of (is_for fs x) later ≡ false).
     ([], (q, (ap (λ (rest : List Record). q ∷ rest) (none_behind fs x later behind m none), sym (or-false (is_for fs x q)) ∙ rw none at h))))
-    (decided (some_of (is_for fs x) later))
+    (cases_Bool (some_of (is_for fs x) later))
 own_listed fs x rest row (left_out q later behind e m) h =
-    own_listed fs x later behind m (rw (or_false_both (is_for fs x q) (is_used q.formula behind) e).0 at h)
+    own_listed fs x later behind m (rw (or_parts (is_for fs x q) (is_used q.formula behind) e).0 at h)
 
 -- a record that has a number as its premise uses it
 uses : (p : ℕ) (before after : List Record) (r : Record) (row : List Record) → row ≡ before ++ (r ∷ after) → is_premise p r.way ≡ true → is_used p row ≡ true
@@ -208,7 +210,7 @@ module _ (hyps fs : List Formula) (x : Formula) where
       (λ (early : is_recorded p (done ++ (q ∷ [])) ≡ true).
       ⊎_elim (λ (first : is_recorded p done ≡ true). inl first)
       (λ (own : is_recorded p (q ∷ []) ≡ true).
-      let unused = (or_false_both (is_for fs x q) (is_used q.formula behind) t).1 in
+      let unused = (or_parts (is_for fs x q) (is_used q.formula behind) t).1 in
       absurd (false≢true (sym unused ∙ rw (← recorded_alone p q own) (uses p before after r behind e h))))
       (recorded_cases p done (q ∷ []) early))
       (λ (late : is_recorded p before ≡ true). inr late)
@@ -225,7 +227,7 @@ module _ (hyps fs : List Formula) (x : Formula) where
       let first = good_first hyps fs done r rest goods in
       let fresh = later_fresh hyps fs (done ++ (r ∷ [])) rest first.1 found.0 found.1.0 in
       let same = once r found.0 (good_parts hyps fs done r first.0).0 fresh.1 own found.1.1 in
-      fresh.0 (recorded_second found.0.formula done (r ∷ []) (rw (← same) (by_recorded r (r ∷ []) (mathlib.Core.List.Memᴰ.head refl))))
+      fresh.0 (recorded_second found.0.formula done (r ∷ []) (rw (← same) (by_recorded r (r ∷ []) (Memᴰ.head refl))))
 
   -- every listed record but the last is used behind
   listed_needed : Once → (done rest row : List Record) → GoodRow hyps fs done rest → Reasoned fs x rest row → (before after : List Record) (r next : Record)
@@ -239,9 +241,9 @@ module _ (hyps fs : List Formula) (x : Formula) where
       (λ (own : is_for fs x q ≡ true).
       ⊎_elim (λ (other : some_of (is_for fs x) later ≡ true). absurd (own_once once done later q goods own other))
       (λ (none : some_of (is_for fs x) later ≡ false). absurd (nil≢cons (sym (none_behind fs x later behind m none) ∙ then)))
-      (decided (some_of (is_for fs x) later)))
+      (cases_Bool (some_of (is_for fs x) later)))
       (λ (used : is_used q.formula behind ≡ true). rw (← same, ← then) used)
-      (or_true (is_for fs x q) (is_used q.formula behind) t)
+      (or_cases (is_for fs x q) (is_used q.formula behind) t)
   listed_needed once done rest row goods (listed q later behind t m) (s ∷ before) after r next e =
       listed_needed once (done ++ (q ∷ [])) later behind (good_first hyps fs done q later goods).1 m before after r next (tail-eq_of_cons-eq e)
   listed_needed once done rest row goods (left_out q later behind t m) before after r next e =
@@ -287,10 +289,10 @@ module _ (hyps fs : List Formula) (x : Formula) where
         numbers =
             λ q m.
             ⊎_elim (λ (early : Memᴰ q done). gone.numbers q early)
-            (λ (own : Memᴰ q (r ∷ [])). rw (mathlib.Core.List.Memᴰ.eq_of_singleton own) (good_parts hyps fs done r good).0)
-            (mathlib.Core.List.Memᴰ.append_cases done m);
+            (λ (own : Memᴰ q (r ∷ [])). rw (Memᴰ.eq_of_singleton own) (good_parts hyps fs done r good).0)
+            (Memᴰ.append_cases done m);
         own_gone =
-            λ empty. witness_some_of (is_for fs x) (mathlib.Core.List.Memᴰ.append_right done (mathlib.Core.List.Memᴰ.head refl)) (gone.last [] r (ap (λ (rest : List Record). r ∷ rest) empty));
+            λ empty. witness_some_of (is_for fs x) (Memᴰ.append_right done (Memᴰ.head refl)) (gone.last [] r (ap (λ (rest : List Record). r ∷ rest) empty));
         premises = λ before after q e. rw append_assoc (gone.premises (r ∷ before) after q (ap (λ (rest : List Record). r ∷ rest) e));
         last = λ before q e. gone.last (r ∷ before) q (ap (λ (rest : List Record). r ∷ rest) e);
         needed = λ before after q next e. gone.needed (r ∷ before) after q next (ap (λ (rest : List Record). r ∷ rest) e);
@@ -304,12 +306,12 @@ module _ (hyps fs : List Formula) (x : Formula) where
         numbers =
             λ q m.
             ⊎_elim (λ (early : Memᴰ q done). gone.numbers q early)
-            (λ (own : Memᴰ q (r ∷ [])). rw (mathlib.Core.List.Memᴰ.eq_of_singleton own) (good_parts hyps fs done r good).0)
-            (mathlib.Core.List.Memᴰ.append_cases done m);
+            (λ (own : Memᴰ q (r ∷ [])). rw (Memᴰ.eq_of_singleton own) (good_parts hyps fs done r good).0)
+            (Memᴰ.append_cases done m);
         own_gone =
             λ empty.
             let found = some_of_witness (is_for fs x) done (gone.own_gone empty) in
-            witness_some_of (is_for fs x) (mathlib.Core.List.Memᴰ.append_left (r ∷ []) found.1.0) found.1.1;
+            witness_some_of (is_for fs x) (Memᴰ.append_left (r ∷ []) found.1.0) found.1.1;
         premises = gone.premises;
         last = gone.last;
         needed = gone.needed;
@@ -318,7 +320,7 @@ module _ (hyps fs : List Formula) (x : Formula) where
   -- a record of the row is listed: it is used behind, or the last and for the formula
   taken_listed : (part done row : List Record) (r : Record) → Gone part done (r ∷ row) → is_for fs x r || is_used r.formula row ≡ true
   taken_listed part done [] r gone = rw (gone.last [] r refl)
-  taken_listed part done (s ∷ after) r gone = true_or (is_for fs x r) (gone.needed [] after r s refl)
+  taken_listed part done (s ∷ after) r gone = or_right (is_for fs x r) _ (gone.needed [] after r s refl)
 
   -- a record that the row passes over is not for the formula, since another one is, ..
   passed_other : Once → (part done row rest : List Record) (r : Record) → Within row rest → GoodRow hyps fs done (r ∷ rest) → Gone part done row
@@ -345,9 +347,9 @@ module _ (hyps fs : List Formula) (x : Formula) where
       ⊎_elim (λ (early : is_recorded r.formula part ≡ true). false≢true (sym (good_parts hyps fs done r first.0).1 ∙ gone.done_too r.formula early))
       (λ (late : is_recorded r.formula place.0 ≡ true).
       let other = recorded_by r.formula place.0 late in
-      let stand = within_mem row rest w other.0 (subst (Memᴰ other.0) (sym place.1.1) (mathlib.Core.List.Memᴰ.append_left (found.0 ∷ place.1.0) other.1.0)) in
+      let stand = within_mem row rest w other.0 (subst (Memᴰ other.0) (sym place.1.1) (Memᴰ.append_left (found.0 ∷ place.1.0) other.1.0)) in
       (later_fresh hyps fs (done ++ (r ∷ [])) rest first.1 other.0 stand).0
-      (recorded_second other.0.formula done (r ∷ []) (rw (← other.1.1) (by_recorded r (r ∷ []) (mathlib.Core.List.Memᴰ.head refl)))))
+      (recorded_second other.0.formula done (r ∷ []) (rw (← other.1.1) (by_recorded r (r ∷ []) (Memᴰ.head refl)))))
       (recorded_cases r.formula part place.0 recorded)
 
   chain_reasoned : Once → (part done row rest : List Record) → Within row rest → GoodRow hyps fs done rest → Gone part done row → Reasoned fs x rest row
@@ -359,10 +361,10 @@ module _ (hyps fs : List Formula) (x : Formula) where
   chain_reasoned once part done row rest (passed r behind later w) goods gone =
       let first = good_first hyps fs done r later goods in
       left_out r later behind
-      (not_true_false (is_for fs x r || is_used r.formula behind)
+      (false_from_ne_true (is_for fs x r || is_used r.formula behind)
       (λ (h : is_for fs x r || is_used r.formula behind ≡ true).
       ⊎_elim (passed_other once part done behind later r w goods gone) (passed_unused part done behind later r w goods gone)
-      (or_true (is_for fs x r) (is_used r.formula behind) h)))
+      (or_cases (is_for fs x r) (is_used r.formula behind) h)))
       (chain_reasoned once part (done ++ (r ∷ [])) behind later w first.1 (gone_passed part done behind r first.0 gone))
 
   gone_nothing : (kept row : List Record) → IsChain fs x kept row → Gone [] [] row
@@ -390,7 +392,7 @@ module _ (hyps fs : List Formula) (x : Formula) where
       let first = good_first hyps fs done r later goods in
       let parts = good_parts hyps fs done r first.0 in
       let fresh : is_recorded r.formula part ≡ false =
-      not_true_false (is_recorded r.formula part) (λ (h : is_recorded r.formula part ≡ true). false≢true (sym parts.1 ∙ gone.done_too r.formula h)) in
+      false_from_ne_true (is_recorded r.formula part) (λ (h : is_recorded r.formula part ≡ true). false≢true (sym parts.1 ∙ gone.done_too r.formula h)) in
       let premises = rw append-nil at (gone.premises [] behind r refl) in
       more part r behind (rw (lt-ltb r.formula (length fs) parts.0, fresh, premises, parts.3))
       (within_good (part ++ (r ∷ [])) (done ++ (r ∷ [])) behind later w first.1 (gone_taken part done behind r first.0 gone))
@@ -419,13 +421,13 @@ reasons_split fs x (r ∷ front) rest s m =
     let test = is_for fs x r || is_used r.formula behind in
     let later : Memᴰ s behind → Memᴰ s (r ∷ front) ⊎ Memᴰ s (reasons fs x rest) =
     λ (n : Memᴰ s behind).
-    ⊎_elim (λ (early : Memᴰ s front). inl (mathlib.Core.List.Memᴰ.tail early)) (λ (late : Memᴰ s (reasons fs x rest)). inr late)
+    ⊎_elim (λ (early : Memᴰ s front). inl (Memᴰ.tail early)) (λ (late : Memᴰ s (reasons fs x rest)). inr late)
     (reasons_split fs x front rest s n) in
     ⊎_elim
     (λ (h : test ≡ true).
-    ⊎_elim (λ (e : s ≡ r). inl (mathlib.Core.List.Memᴰ.head e)) later (mathlib.Core.List.Memᴰ.cases_cons (rw h at m)))
+    ⊎_elim (λ (e : s ≡ r). inl (Memᴰ.head e)) later (Memᴰ.cases_cons (rw h at m)))
     (λ (h : test ≡ false). later (rw h at m))
-    (decided test)
+    (cases_Bool test)
 
 -- and a reason among the later is one among all
 reasons_more : (fs : List Formula) (x : Formula) (front rest : List Record) (s : Record) → Memᴰ s (reasons fs x rest)
@@ -436,7 +438,7 @@ reasons_more fs x (r ∷ front) rest s m =
     let behind = reasons fs x (front ++ rest) in
     let test = is_for fs x r || is_used r.formula behind in
     let later = reasons_more fs x front rest s m in
-    ⊎_elim (λ (h : test ≡ true). rw h (mathlib.Core.List.Memᴰ.tail later)) (λ (h : test ≡ false). rw h later) (decided test)
+    ⊎_elim (λ (h : test ≡ true). rw h (Memᴰ.tail later)) (λ (h : test ≡ false). rw h later) (cases_Bool test)
 
 module _ (hyps fs : List Formula) where
   -- the premises of a good row's records, up to one, are recorded before that one
@@ -444,14 +446,14 @@ module _ (hyps fs : List Formula) where
       → is_premise p s.way ≡ true → is_recorded p (done ++ row) ≡ true
   premises_early done [] rest r s goods m p h =
       let good = good_parts hyps fs done r (good_first hyps fs done r rest goods).0 in
-      rw append-nil (premise_recorded p r.way done good.2 (rw (mathlib.Core.List.Memᴰ.eq_of_singleton m) at h))
+      rw append-nil (premise_recorded p r.way done good.2 (rw (Memᴰ.eq_of_singleton m) at h))
   premises_early done (q ∷ row) rest r s goods m p h =
       let first = good_first hyps fs done q (row ++ (r ∷ rest)) goods in
       ⊎_elim
       (λ (e : s ≡ q).
       recorded_first p done (q ∷ row) (premise_recorded p q.way done (good_parts hyps fs done q first.0).2 (rw e at h)))
       (λ (n : Memᴰ s (row ++ (r ∷ []))). rw append_assoc at (premises_early (done ++ (q ∷ [])) row rest r s first.1 n p h))
-      (mathlib.Core.List.Memᴰ.cases_cons m)
+      (Memᴰ.cases_cons m)
 
   -- A record of a good row is used by the reasons exactly where it is by those behind it.
   pub used_behind : (x : Formula) (front rest : List Record) (r : Record) → GoodRow hyps fs [] (front ++ (r ∷ rest))
@@ -465,7 +467,7 @@ module _ (hyps fs : List Formula) where
       witness_some_of (λ (q : Record). is_premise r.formula q.way) (subst (λ (rows : List Record). Memᴰ found.0 (reasons fs x rows)) (sym whole)
       (reasons_more fs x (front ++ (r ∷ [])) rest found.0 found.1.0)) found.1.1 ∙ sym h)
       (λ (h : some_of (λ (q : Record). is_premise r.formula q.way) (reasons fs x rest) ≡ false).
-      not_true_false (some_of (λ (q : Record). is_premise r.formula q.way) (reasons fs x (front ++ (r ∷ rest))))
+      false_from_ne_true (some_of (λ (q : Record). is_premise r.formula q.way) (reasons fs x (front ++ (r ∷ rest))))
       (λ (used : some_of (λ (q : Record). is_premise r.formula q.way) (reasons fs x (front ++ (r ∷ rest))) ≡ true).
       let found = some_of_witness (λ (q : Record). is_premise r.formula q.way) (reasons fs x (front ++ (r ∷ rest))) used in
       ⊎_elim
@@ -476,7 +478,7 @@ module _ (hyps fs : List Formula) where
       (reasons_split fs x (front ++ (r ∷ [])) rest found.0
       (subst (λ (rows : List Record). Memᴰ found.0 (reasons fs x rows)) whole found.1.0)))
       ∙ sym h)
-      (decided (some_of (λ (q : Record). is_premise r.formula q.way) (reasons fs x rest)))
+      (cases_Bool (some_of (λ (q : Record). is_premise r.formula q.way) (reasons fs x rest)))
 
   -- the number of each of its records is on the list
   pub good_number : (done front rest : List Record) (r : Record) → GoodRow hyps fs done (front ++ (r ∷ rest)) → r.formula < length fs

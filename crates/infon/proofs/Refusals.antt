@@ -5,22 +5,20 @@ use Prim.Native.Nat.{ℕ, ◌+◌, ◌*◌, ◌≤◌, ◌<◌}
 use native.Mathlib.Omega.{arith}
 use mathlib.Core.Path.{◌≡◌, refl, sym, ◌∙◌, ap, subst}
 use mathlib.Core.Logic.{◌⊎◌, inl, inr, ⊎_elim}
-use mathlib.Core.Bool.{Bool, true, false, not}
+use mathlib.Core.Bool.{Bool, true, false, not, not-not}
 use mathlib.Core.List.{List, [], ◌∷◌, ◌++◌}
 use lib.ListN.{length, length-append}
 use lib.Dec.{ltb}
 use borrow.Author.Tests.{ltb-true, ltb-false, lt-ltb, le-ltb}
 use Rattle.infon.specs.declared.Record.{Record}
-use Rattle.infon.specs.declared.Verdict.{Verdict}
-use Rattle.infon.specs.declared.Verdict.TheVariants.{Passed, Refused}
 use Rattle.infon.specs.Formula.{Formula, nodes, depth}
-use Rattle.infon.specs.Codes.{and_then, when, tried, Code, First, None}
+use Rattle.infon.specs.Codes.{and_then, when, tried, Code, First, None, Verdict, passed, refused}
 use Rattle.infon.specs.Policy.{Line, lines_of, is_well_formed, Entry, entries_of, formula_in, hypotheses_of, queries_of, most_bytes, code1, code2_from, code2, most_nodes, code3_from, code3, most_depth, code4}
 use Rattle.infon.specs.Listing.{weakened_bases, enlist, list_from, list_of, most_listed, code5_from, code5}
 use Rattle.infon.specs.Journal.{record_bytes, kept_of, grown}
 use Rattle.infon.specs.Run.{file_codes, file_verdict, code6, code7, code8, code9, Outcome, refusal, success, run}
 use Rattle.infon.specs.Board.{nodes_in, is_shallow, FileTooLong, file_too_long, LineNotWellFormed, line_not_well_formed, TooManyNodes, too_many_nodes, TooDeep, too_deep, TooManyListed, too_many_listed, JournalTooShort, journal_too_short, UsedTooLong, used_too_long, AnswersTooShort, answers_too_short, NoRoom, no_room, file_row, run_row}
-use Rattle.infon.proofs.Rows.{decided}
+use Rattle.std.proofs.lemmas.Bool.{cases_Bool}
 use Rattle.infon.proofs.Listed.{enlist_begins, list_from_append}
 use Rattle.infon.proofs.Tried.{when_true, when_false, pass_on, when_passed, and_then_passed, tried_append, scanned, FirstBad, scanned_says, gone, counted, FirstOver, counted_says, Says, Speaks, silent, speaks, speaks_append, given_or_none, none_given, given_none, first_numbered, refuses, passes}
 
@@ -31,17 +29,13 @@ unfolding code2_from scanned
 code2_scanned [] = refl
 code2_scanned (line ∷ rest) = ap (and_then (when (not (is_well_formed line)) 2 line.start)) (code2_scanned rest)
 
-not_not : (b : Bool) → not (not b) ≡ b
-not_not true = refl
-not_not false = refl
-
 code4_scanned : (entries : List Entry) → code4 entries ≡ scanned is_shallow 4 (λ (e : Entry). e.start) entries
 unfolding code4 scanned is_shallow
 code4_scanned [] = refl
 code4_scanned (e ∷ rest) =
     let deep = ltb most_depth (depth (formula_in e.sentence)) in
     ap (and_then (when deep 4 e.start)) (code4_scanned rest)
-    ∙ ap (λ (b : Bool). and_then (when b 4 e.start) (scanned is_shallow 4 (λ (f : Entry). f.start) rest)) (sym (not_not deep))
+    ∙ ap (λ (b : Bool). and_then (when b 4 e.start) (scanned is_shallow 4 (λ (f : Entry). f.start) rest)) (sym (not-not deep))
 
 add_nodes : ℕ → Entry → ℕ
 add_nodes count e = count + nodes (formula_in e.sentence)
@@ -174,20 +168,20 @@ module _ (file : List ℕ) where
 
 -- ---- The codes of a call
 
-pub not_less : (a b code : ℕ) → when (ltb a b) code 0 ≡ Passed → b ≤ a
+pub not_less : (a b code : ℕ) → when (ltb a b) code 0 ≡ passed → b ≤ a
 not_less a b code h = ltb-false a b (when_passed (ltb a b) code 0 h)
 
 -- a code by its test, at place 0
-not_tried : (a b code : ℕ) → b ≤ a → when (ltb a b) code 0 ≡ Passed
+not_tried : (a b code : ℕ) → b ≤ a → when (ltb a b) code 0 ≡ passed
 not_tried a b code h = when_false (ltb a b) code 0 (le-ltb a b h)
 
 pub tests : (c : Code) (b : Bool) → ((place : ℕ) → c.rule place → (place ≡ 0) × (b ≡ true)) → (b ≡ true → c.rule 0) → Says c (when b c.number 0)
 tests c b holds rule =
     record {
-      given = λ place h. when_true b c.number 0 (holds place h).1 ∙ ap (Refused c.number) (sym (holds place h).0);
+      given = λ place h. when_true b c.number 0 (holds place h).1 ∙ ap (refused c.number) (sym (holds place h).0);
       either =
           ⊎_elim (λ (h : b ≡ true). inr (0, (when_true b c.number 0 h, rule h))) (λ (h : b ≡ false). inl (when_false b c.number 0 h))
-          (decided b);
+          (cases_Bool b);
     }
 
 -- a code whose test is that one number is below another
@@ -246,16 +240,16 @@ module _ (file : List ℕ) where
   -- each of them passes where the file is accepted
   pub record FilePasses : Type 0 where
     pub short : length file ≤ most_bytes
-    pub formed : code2 file ≡ Passed
-    pub few : code3 (entries_of file) ≡ Passed
-    pub shallow : code4 (entries_of file) ≡ Passed
-    pub listed : code5 (entries_of file) ≡ Passed
+    pub formed : code2 file ≡ passed
+    pub few : code3 (entries_of file) ≡ passed
+    pub shallow : code4 (entries_of file) ≡ passed
+    pub listed : code5 (entries_of file) ≡ passed
 
-  pub accepted_passes : file_verdict file ≡ Passed → FilePasses
+  pub accepted_passes : file_verdict file ≡ passed → FilePasses
   unfolding file_verdict file_codes tried code1
   accepted_passes e =
       let entries = entries_of file in
-      let from5 = and_then (code5 entries) Passed in
+      let from5 = and_then (code5 entries) passed in
       let from4 = and_then (code4 entries) from5 in
       let from3 = and_then (code3 entries) from4 in
       let behind1 = and_then_passed (code1 file) (and_then (code2 file) from3) e in
@@ -267,7 +261,7 @@ module _ (file : List ℕ) where
         formed = behind2.0;
         few = behind3.0;
         shallow = behind4.0;
-        listed = (and_then_passed (code5 entries) Passed behind4.1).0;
+        listed = (and_then_passed (code5 entries) passed behind4.1).0;
       }
 
 module _ (file journal : List ℕ) (used limit : ℕ) (answers : List ℕ) where
@@ -361,7 +355,7 @@ module _ (file journal : List ℕ) (used limit : ℕ) (answers : List ℕ) where
 
   -- What is so where no rule of the row holds.
   pub record LetsPass : Type 0 where
-    pub accepted : file_verdict file ≡ Passed
+    pub accepted : file_verdict file ≡ passed
     pub journal_long : record_bytes * length (list_of (entries_of file)) ≤ length journal
     pub used_inside : used ≤ length journal
     pub answers_long : length (queries_of (entries_of file)) ≤ length answers
@@ -379,7 +373,7 @@ module _ (file journal : List ℕ) (used limit : ℕ) (answers : List ℕ) where
       let behind6 = and_then_passed (code6 (list_of entries) journal) from7 all.1 in
       let behind7 = and_then_passed (code7 journal used) from8 behind6.1 in
       let behind8 = and_then_passed (code8 (queries_of entries) answers) from9 behind7.1 in
-      let last = and_then_passed (code9 kept added journal) Passed behind8.1 in
+      let last = and_then_passed (code9 kept added journal) passed behind8.1 in
       record {
         accepted = all.0;
         journal_long = not_less (length journal) (record_bytes * length (list_of entries)) 6 behind6.0;

@@ -4,7 +4,8 @@ use mathlib.Core.Path.{◌≡◌, refl}
 use mathlib.Core.Bool.{true, false≢true}
 use Rattle.infon.specs.Bytes.{alike}
 use Rattle.infon.specs.Formula.{Told, said, put, Quotation, Formula, True, name, and, implies, quoted, same_told, same_quotation, same}
-use Rattle.infon.proofs.Rows.{and_true, true_and, alike_refl, alike_eq}
+use Rattle.std.proofs.lemmas.Bool.{and_parts, and_from}
+use Rattle.infon.proofs.Rows.{alike_refl, alike_eq}
 
 same_told_refl : (t : Told) → same_told t t ≡ true
 unfolding same_told
@@ -20,21 +21,21 @@ same_told_eq put put h = refl
 
 pub same_quotation_refl : (q : Quotation) → same_quotation q q ≡ true
 unfolding same_quotation
-same_quotation_refl q = true_and (same_told_refl q.told) (alike_refl q.principal)
+same_quotation_refl q = and_from _ _ (same_told_refl q.told) (alike_refl q.principal)
 
 pub same_quotation_eq : (p q : Quotation) → same_quotation p q ≡ true → p ≡ q
 unfolding same_quotation
 same_quotation_eq p q h =
-    let parts = and_true (same_told p.told q.told) (alike p.principal q.principal) h in
+    let parts = and_parts (same_told p.told q.told) (alike p.principal q.principal) h in
     λ i. record { told = same_told_eq p.told q.told parts.0 i; principal = alike_eq p.principal q.principal parts.1 i }
 
 pub same_refl : (x : Formula) → same x x ≡ true
 unfolding same
 same_refl True = refl
 same_refl (name a) = alike_refl a
-same_refl (and x y) = true_and (same_refl x) (same_refl y)
-same_refl (implies x y) = true_and (same_refl x) (same_refl y)
-same_refl (quoted q x) = true_and (same_quotation_refl q) (same_refl x)
+same_refl (and x y) = and_from _ _ (same_refl x) (same_refl y)
+same_refl (implies x y) = and_from _ _ (same_refl x) (same_refl y)
+same_refl (quoted q x) = and_from _ _ (same_quotation_refl q) (same_refl x)
 
 pub same_eq : (x y : Formula) → same x y ≡ true → x ≡ y
 unfolding same
@@ -51,7 +52,7 @@ same_eq (name a) (quoted r z) h = absurd (false≢true h)
 same_eq (and x y) True h = absurd (false≢true h)
 same_eq (and x y) (name b) h = absurd (false≢true h)
 same_eq (and x y) (and z w) h =
-    let both = and_true (same x z) (same y w) h in
+    let both = and_parts (same x z) (same y w) h in
     λ i. and (same_eq x z both.0 i) (same_eq y w both.1 i)
 same_eq (and x y) (implies z w) h = absurd (false≢true h)
 same_eq (and x y) (quoted r z) h = absurd (false≢true h)
@@ -59,7 +60,7 @@ same_eq (implies x y) True h = absurd (false≢true h)
 same_eq (implies x y) (name b) h = absurd (false≢true h)
 same_eq (implies x y) (and z w) h = absurd (false≢true h)
 same_eq (implies x y) (implies z w) h =
-    let both = and_true (same x z) (same y w) h in
+    let both = and_parts (same x z) (same y w) h in
     λ i. implies (same_eq x z both.0 i) (same_eq y w both.1 i)
 same_eq (implies x y) (quoted r z) h = absurd (false≢true h)
 same_eq (quoted q x) True h = absurd (false≢true h)
@@ -67,5 +68,5 @@ same_eq (quoted q x) (name b) h = absurd (false≢true h)
 same_eq (quoted q x) (and z w) h = absurd (false≢true h)
 same_eq (quoted q x) (implies z w) h = absurd (false≢true h)
 same_eq (quoted q x) (quoted r z) h =
-    let both = and_true (same_quotation q r) (same x z) h in
+    let both = and_parts (same_quotation q r) (same x z) h in
     λ i. quoted (same_quotation_eq q r both.0 i) (same_eq x z both.1 i)

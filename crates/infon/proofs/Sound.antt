@@ -17,7 +17,8 @@ use Rattle.infon.specs.Listing.{Prefix, wrap}
 use Rattle.infon.specs.Calculus.{under, Derives, hypothesis, given, weaken, left, right, both, apply, attach}
 use Rattle.infon.specs.Rules.{Shape, truth, primitive, conjunction, implication, shape_of, weakenings, is_truth, is_left, is_right, are_both, is_conclusion, is_condition, numbered, gives}
 use Rattle.infon.specs.Journal.{is_recorded, premises_in, is_good}
-use Rattle.infon.proofs.Rows.{and_true, witness_some_of}
+use Rattle.std.proofs.lemmas.Bool.{and_parts}
+use Rattle.infon.proofs.Rows.{witness_some_of}
 use Rattle.infon.proofs.Same.{same_eq}
 use Rattle.infon.proofs.Prefixes.{listed_mem, wrap_under_reverse, weaker_reverse, shape_truth, shape_conjunction, shape_implication, weakenings_weaker}
 use Rattle.infon.proofs.Least.{PremisesBelow}
@@ -57,7 +58,7 @@ unfolding are_both is_left is_right
 both_found x y truth h = absurd (false≢true h)
 both_found x y primitive h = absurd (false≢true h)
 both_found x y (conjunction l r) h =
-    let parts = and_true (same x l) (same y r) h in
+    let parts = and_parts (same x l) (same y r) h in
     λ i. conjunction (sym (same_eq x l parts.0) i) (sym (same_eq y r parts.1) i)
 both_found x y (implication l r) h = absurd (false≢true h)
 
@@ -67,7 +68,7 @@ applied_found x y truth h = absurd (false≢true h)
 applied_found x y primitive h = absurd (false≢true h)
 applied_found x y (conjunction l r) h = absurd (false≢true h)
 applied_found x y (implication l r) h =
-    let parts = and_true (same x l) (same y r) h in
+    let parts = and_parts (same x l) (same y r) h in
     λ i. implication (sym (same_eq x l parts.0) i) (sym (same_eq y r parts.1) i)
 
 -- a record's number is recorded
@@ -119,10 +120,10 @@ module _ (hyps fs : List Formula) where
   premises_below done (Left p) sound h = premise_below done p sound h
   premises_below done (Right p) sound h = premise_below done p sound h
   premises_below done (Both p q) sound h =
-      let both_in = and_true (is_recorded p done) (is_recorded q done) h in
+      let both_in = and_parts (is_recorded p done) (is_recorded q done) h in
       (premise_below done p sound both_in.0, premise_below done q sound both_in.1)
   premises_below done (Apply p q) sound h =
-      let both_in = and_true (is_recorded p done) (is_recorded q done) h in
+      let both_in = and_parts (is_recorded p done) (is_recorded q done) h in
       (premise_below done p sound both_in.0, premise_below done q sound both_in.1)
   premises_below done (Attach p) sound h = premise_below done p sound h
 
@@ -158,7 +159,7 @@ module _ (hyps fs : List Formula) where
       let from = subst (Derives hyps) found.1.1.1.0 (premise_derived done p sound prem) in
       subst (Derives hyps) (sym found.1.1.1.1.1) (inner w y (right (reverse w) x y (outer w (and x y) from)))
   way_derives done (Both p q) z sound prem h =
-      let premises = and_true (is_recorded p done) (is_recorded q done) prem in
+      let premises = and_parts (is_recorded p done) (is_recorded q done) prem in
       let found = shape_conjunction z (both_found (numbered fs p) (numbered fs q) (shape_of z) h) in
       let w = found.0 in
       let x = found.1.0 in
@@ -167,7 +168,7 @@ module _ (hyps fs : List Formula) where
       let dy = subst (Derives hyps) found.1.1.1.1.1 (premise_derived done q sound premises.1) in
       subst (Derives hyps) (sym found.1.1.1.0) (inner w (and x y) (both (reverse w) x y (outer w x dx) (outer w y dy)))
   way_derives done (Apply p q) z sound prem h =
-      let premises = and_true (is_recorded p done) (is_recorded q done) prem in
+      let premises = and_parts (is_recorded p done) (is_recorded q done) prem in
       let found = shape_implication (numbered fs q) (applied_found (numbered fs p) z (shape_of (numbered fs q)) h) in
       let w = found.0 in
       let x = found.1.0 in

@@ -2,9 +2,8 @@
 use Rattle.std.specs.Prelude.{ℕ, zero, suc, ◌*◌, ◌||◌, not, List, [], ◌∷◌, ◌++◌, length, get_or, ltb, eqb}
 use Rattle.infon.specs.declared.Record.{Record}
 use Rattle.infon.specs.declared.Chained.{Chained}
-use Rattle.infon.specs.declared.Verdict.{Verdict}
 use Rattle.infon.specs.Formula.{Formula, True}
-use Rattle.infon.specs.Codes.{when, tried, settled}
+use Rattle.infon.specs.Codes.{when, tried, settled, Verdict}
 use Rattle.infon.specs.Policy.{entries_of, hypotheses_of, queries_of}
 use Rattle.infon.specs.Listing.{list_of}
 use Rattle.infon.specs.Journal.{record_bytes, spelled_all, kept_of}

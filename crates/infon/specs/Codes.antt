@@ -1,27 +1,36 @@
 -- 01, "Codes on the board": "Tried in this order; the first that applies is given, and none otherwise." A function tries a row of
 -- codes, in the row's order, whatever their numbers are.
-use Rattle.std.specs.Prelude.{ℕ, Bool, true, false, List, [], ◌∷◌}
-use Rattle.infon.specs.declared.Verdict.{Verdict}
-use Rattle.infon.specs.declared.Verdict.TheVariants.{Passed, Refused}
+use Rattle.std.specs.Prelude.{ℕ, Bool, true, false, List, [], ◌∷◌, Result, Ok, Err}
+use Rattle.infon.specs.declared.Refusal.{Refusal}
+
+-- what codes say: none applies, or one with its place
+abbrev pub Verdict : Type 0
+Verdict = Result (Unit {0}) Refusal
+
+pattern abbrev pub passed : Verdict
+passed = Ok tt
+
+abbrev pub refused : ℕ → ℕ → Verdict
+refused code place = Err (record { code = code; place = place })
 
 -- what a code says: refused with its place where its test holds
 unfoldable pub when : Bool → ℕ → ℕ → Verdict
-when true code place = Refused code place
-when false code place = Passed
+when true code place = refused code place
+when false code place = passed
 
 unfoldable pub and_then : Verdict → Verdict → Verdict
-and_then Passed later = later
-and_then (Refused code place) later = Refused code place
+and_then passed later = later
+and_then (Err by) later = Err by
 
 -- what a row of codes says, each by its own verdict
 unfoldable pub tried : List Verdict → Verdict
-tried [] = Passed
+tried [] = passed
 tried (v ∷ later) = and_then v (tried later)
 
 -- what a call leaves, by its verdict: what a refusal with its code and place leaves, or what the call does
 unfoldable pub settled : {A : Type 0} → Verdict → (ℕ → ℕ → A) → A → A
-settled Passed refusal outcome = outcome
-settled (Refused code place) refusal outcome = refusal code place
+settled passed refusing outcome = outcome
+settled (Err by) refusing outcome = refusing by.code by.place
 
 -- A code on the board: its number, and its rule, which says of a place that the code is due there.
 pub record Code : Type 1 where

@@ -1,6 +1,5 @@
 -- 01, "The policy file": formulas, their spelling, their nodes and their depth.
-use Rattle.std.specs.Prelude.{ℕ, suc, ◌+◌, max, Bool, true, false, cond, ◌&&◌, ◌||◌, List, [], ◌∷◌, ◌++◌, length, leb, eqb}
-use Rattle.std.proofs.Math.Option.{Option, none, some}
+use Rattle.std.specs.Prelude.{ℕ, suc, ◌+◌, max, Bool, true, false, cond, ◌&&◌, ◌||◌, List, [], ◌∷◌, ◌++◌, length, leb, eqb, Option, None, Some, option_and_then}
 use Rattle.infon.specs.Bytes.{bytes, space, alike, every}
 
 -- the two ways in which a principal passes a formula on; said is the stronger
@@ -71,41 +70,37 @@ tokens (b ∷ s) =
     cond (eqb b space) ([] ∷ rest) (onto b rest)
 
 unfoldable pub join_two : (Formula → Formula → Formula) → List Formula → Option (List Formula)
-join_two operator [] = none
-join_two operator (x ∷ []) = none
-join_two operator (x ∷ (y ∷ waiting)) = some (operator x y ∷ waiting)
+join_two operator [] = None
+join_two operator (x ∷ []) = None
+join_two operator (x ∷ (y ∷ waiting)) = Some (operator x y ∷ waiting)
 
 unfoldable pub quote : Told → List Formula → Option (List Formula)
-quote told [] = none
-quote told (name a ∷ []) = none
-quote told (name a ∷ (x ∷ waiting)) = some (quoted (record { told = told; principal = a }) x ∷ waiting)
-quote told (True ∷ waiting) = none
-quote told (and x y ∷ waiting) = none
-quote told (implies x y ∷ waiting) = none
-quote told (quoted q x ∷ waiting) = none
+quote told [] = None
+quote told (name a ∷ []) = None
+quote told (name a ∷ (x ∷ waiting)) = Some (quoted (record { told = told; principal = a }) x ∷ waiting)
+quote told (True ∷ waiting) = None
+quote told (and x y ∷ waiting) = None
+quote told (implies x y ∷ waiting) = None
+quote told (quoted q x ∷ waiting) = None
 
 unfoldable pub take_word : List ℕ → List Formula → Option (List Formula)
 take_word word waiting =
-    cond (alike word (bytes "T")) (some (True ∷ waiting))
+    cond (alike word (bytes "T")) (Some (True ∷ waiting))
     (cond (alike word (bytes "+")) (join_two and waiting)
     (cond (alike word (bytes ">")) (join_two implies waiting)
     (cond (alike word (bytes "S")) (quote said waiting)
     (cond (alike word (bytes "P")) (quote put waiting)
-    (cond (is_name word) (some (name word ∷ waiting)) none)))))
-
-unfoldable pub take_next : List ℕ → Option (List Formula) → Option (List Formula)
-take_next word none = none
-take_next word (some waiting) = take_word word waiting
+    (cond (is_name word) (Some (name word ∷ waiting)) None)))))
 
 unfoldable pub read_words : List (List ℕ) → Option (List Formula)
-read_words [] = some []
-read_words (word ∷ rest) = take_next word (read_words rest)
+read_words [] = Some []
+read_words (word ∷ rest) = option_and_then (take_word word) (read_words rest)
 
 unfoldable pub only_one : Option (List Formula) → Option Formula
-only_one none = none
-only_one (some []) = none
-only_one (some (x ∷ [])) = some x
-only_one (some (x ∷ (y ∷ waiting))) = none
+only_one None = None
+only_one (Some []) = None
+only_one (Some (x ∷ [])) = Some x
+only_one (Some (x ∷ (y ∷ waiting))) = None
 
 -- the formula that stands in a text, if one does
 unfoldable pub formula_of : List ℕ → Option Formula

@@ -5,8 +5,7 @@
 --   bytes 3 and 4   the formula's number, high byte first
 --   bytes 5 and 6   the first premise's number, or FF FF
 --   bytes 7 and 8   the second premise's number, or FF FF
-use Rattle.std.specs.Prelude.{ℕ, zero, suc, ◌+◌, ◌*◌, ◌/◌, ◌%◌, Bool, true, false, cond, ◌&&◌, not, List, [], ◌∷◌, ◌++◌, map, length, take, drop, get_or, ltb, eqb}
-use Rattle.std.proofs.Math.Option.{Option, none, some}
+use Rattle.std.specs.Prelude.{ℕ, zero, suc, ◌+◌, ◌*◌, ◌/◌, ◌%◌, Bool, true, cond, ◌&&◌, not, List, [], ◌∷◌, ◌++◌, map, length, take, drop, get_or, ltb, eqb, Option, None, Some, option_map, flat_map, is_none}
 use Rattle.infon.specs.declared.Way.{Way}
 use Rattle.infon.specs.declared.Way.TheVariants.{Hypothesis, Given, Weaken, Left, Right, Both, Apply, Attach}
 use Rattle.infon.specs.declared.Record.{Record}
@@ -66,15 +65,14 @@ spelled r =
     mark_high ∷ (mark_low ∷ (rule_of r.way ∷ (two_bytes r.formula ++ (two_bytes (first_premise r.way) ++ two_bytes (second_premise r.way)))))
 
 unfoldable pub spelled_all : List Record → List ℕ
-spelled_all [] = []
-spelled_all (r ∷ rest) = spelled r ++ spelled_all rest
+spelled_all rs = flat_map spelled rs
 
 -- the way that a rule's number and two premises spell: "its rule is 1 to 8", "each that it lacks is FF FF"
 unfoldable pub alone : ℕ → ℕ → Way → Option Way
-alone p q way = cond (eqb p no_premise && eqb q no_premise) (some way) none
+alone p q way = cond (eqb p no_premise && eqb q no_premise) (Some way) None
 
 unfoldable pub with_one : ℕ → Way → Option Way
-with_one q way = cond (eqb q no_premise) (some way) none
+with_one q way = cond (eqb q no_premise) (Some way) None
 
 unfoldable pub way_of : ℕ → ℕ → ℕ → Option Way
 way_of rule p q =
@@ -83,13 +81,9 @@ way_of rule p q =
     (cond (eqb rule 3) (with_one q (Weaken p))
     (cond (eqb rule 4) (with_one q (Left p))
     (cond (eqb rule 5) (with_one q (Right p))
-    (cond (eqb rule 6) (some (Both p q))
-    (cond (eqb rule 7) (some (Apply p q))
-    (cond (eqb rule 8) (with_one q (Attach p)) none)))))))
-
-unfoldable pub record_for : ℕ → Option Way → Option Record
-record_for n none = none
-record_for n (some way) = some (record { formula = n; way = way })
+    (cond (eqb rule 6) (Some (Both p q))
+    (cond (eqb rule 7) (Some (Apply p q))
+    (cond (eqb rule 8) (with_one q (Attach p)) None)))))))
 
 unfoldable pub number_at : List ℕ → ℕ → ℕ
 number_at s i = get_or s i 0 * 256 + get_or s (i + 1) 0
@@ -98,8 +92,8 @@ number_at s i = get_or s i 0 * 256 + get_or s (i + 1) 0
 unfoldable pub decoded : List ℕ → Option Record
 decoded s =
     cond (eqb (get_or s 0 0) mark_high && eqb (get_or s 1 0) mark_low)
-    (record_for (number_at s 3) (way_of (get_or s 2 0) (number_at s 5) (number_at s 7)))
-    none
+    (option_map (λ (way : Way). record { formula = number_at s 3; way = way }) (way_of (get_or s 2 0) (number_at s 5) (number_at s 7)))
+    None
 
 -- the formula's number stands in one of the records
 unfoldable pub is_recorded : ℕ → List Record → Bool
@@ -136,12 +130,12 @@ whole_records (suc n) s = take record_bytes s ∷ whole_records n (drop record_b
 
 -- a record, and what comes after it; nothing where there is none
 unfoldable pub followed : Option Record → (Record → List Record) → List Record
-followed none more = []
-followed (some r) more = r ∷ more r
+followed None more = []
+followed (Some r) more = r ∷ more r
 
 unfoldable pub only_good : List Formula → List Formula → List Record → Option Record → Option Record
-only_good hyps fs done none = none
-only_good hyps fs done (some r) = cond (is_good hyps fs done r) (some r) none
+only_good hyps fs done None = None
+only_good hyps fs done (Some r) = cond (is_good hyps fs done r) (Some r) None
 
 -- "The kept part is the longest row of whole nine-byte records at the journal's start, inside the used length, each good after
 -- those before it." What is kept of the rows after the records `done`.
@@ -160,16 +154,14 @@ numbers_from i zero = []
 numbers_from i (suc n) = i ∷ numbers_from (suc i) n
 
 unfoldable pub each_pair : (ℕ → ℕ → Way) → List ℕ → List ℕ → List Way
-each_pair rule [] seconds = []
-each_pair rule (p ∷ rest) seconds = map (rule p) seconds ++ each_pair rule rest seconds
+each_pair rule firsts seconds = flat_map (λ (p : ℕ). map (rule p) seconds) firsts
 
 unfoldable pub all_ways : List ℕ → List Way
 all_ways ns =
     Hypothesis ∷ (Given ∷ (map Weaken ns ++ (map Left ns ++ (map Right ns ++ (each_pair Both ns ns ++ (each_pair Apply ns ns ++ map Attach ns))))))
 
 unfoldable pub records_for : List Way → List ℕ → List Record
-records_for ways [] = []
-records_for ways (n ∷ rest) = map (λ (w : Way). record { formula = n; way = w }) ways ++ records_for ways rest
+records_for ways numbers = flat_map (λ (n : ℕ). map (λ (w : Way). record { formula = n; way = w }) ways) numbers
 
 unfoldable pub all_records : ℕ → List Record
 all_records n = records_for (all_ways (numbers_from 0 n)) (numbers_from 0 n)
@@ -178,12 +170,8 @@ unfoldable pub next : List Formula → List Formula → List Record → Option R
 next hyps fs done = first_of (is_good hyps fs done) (all_records (length fs))
 
 -- "A journal with no next record is finished."
-unfoldable pub has_none : Option Record → Bool
-has_none none = true
-has_none (some r) = false
-
 unfoldable pub is_finished : List Formula → List Formula → List Record → Bool
-is_finished hyps fs done = has_none (next hyps fs done)
+is_finished hyps fs done = is_none (next hyps fs done)
 
 -- what at most n records, "each the next one", add to the records `done`
 unfoldable pub grown : List Formula → List Formula → List Record → ℕ → List Record

@@ -1,10 +1,8 @@
 -- 01, "The list of formulas that matter", and code 5.
-use Rattle.std.specs.Prelude.{ℕ, Bool, cond, List, [], ◌∷◌, ◌++◌, map, length, ltb}
+use Rattle.std.specs.Prelude.{ℕ, Bool, cond, List, [], ◌∷◌, ◌++◌, map, length, ltb, flat_map}
 use Rattle.infon.specs.Bytes.{some_of}
 use Rattle.infon.specs.Formula.{Told, said, put, Quotation, Formula, True, name, and, implies, quoted, same}
-use Rattle.infon.specs.declared.Verdict.{Verdict}
-use Rattle.infon.specs.declared.Verdict.TheVariants.{Passed}
-use Rattle.infon.specs.Codes.{when, and_then}
+use Rattle.infon.specs.Codes.{when, and_then, Verdict, passed}
 use Rattle.infon.specs.Policy.{Entry, formula_in}
 
 -- A prefix, "the row of quotations above" a base. It is kept from the innermost place to the outermost, as a walk down into a
@@ -25,12 +23,10 @@ weaker_told said = said ∷ (put ∷ [])
 weaker_told put = put ∷ []
 
 unfoldable pub inside : Quotation → List Told → Prefix → List Prefix
-inside q [] outer = []
-inside q (told ∷ rest) outer = (record { told = told; principal = q.principal } ∷ outer) ∷ inside q rest outer
+inside q kinds outer = map (λ (told : Told). record { told = told; principal = q.principal } ∷ outer) kinds
 
 unfoldable pub inside_each : Quotation → List Prefix → List Prefix
-inside_each q [] = []
-inside_each q (outer ∷ rest) = inside q (weaker_told q.told) outer ++ inside_each q rest
+inside_each q outers = flat_map (λ (outer : Prefix). inside q (weaker_told q.told) outer) outers
 
 unfoldable pub weaker_prefixes : Prefix → List Prefix
 weaker_prefixes [] = [] ∷ []
@@ -69,7 +65,7 @@ unfoldable pub most_listed : ℕ
 most_listed = 4096
 
 unfoldable pub code5_from : List Formula → List Entry → Verdict
-code5_from fs [] = Passed
+code5_from fs [] = passed
 code5_from fs (e ∷ rest) =
     let now = enlist fs (weakened_bases [] (formula_in e.sentence)) in
     and_then (when (ltb most_listed (length now)) 5 e.start) (code5_from now rest)

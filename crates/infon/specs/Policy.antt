@@ -1,11 +1,8 @@
 -- 01, "The policy file": lines with their places, and codes 1 to 4 of "Codes on the board".
-use Rattle.std.specs.Prelude.{ℕ, ◌+◌, Bool, true, false, cond, not, List, [], ◌∷◌, length, ltb, eqb}
-use Rattle.std.proofs.Math.Option.{Option, none, some}
-use Rattle.infon.specs.declared.Verdict.{Verdict}
-use Rattle.infon.specs.declared.Verdict.TheVariants.{Passed}
+use Rattle.std.specs.Prelude.{ℕ, ◌+◌, Bool, cond, not, List, [], ◌∷◌, length, ltb, eqb, Option, None, Some, is_some, option_map, option_and_then}
 use Rattle.infon.specs.Bytes.{bytes, line_feed, alike}
 use Rattle.infon.specs.Formula.{Formula, onto, formula_of, nodes, depth}
-use Rattle.infon.specs.Codes.{when, and_then}
+use Rattle.infon.specs.Codes.{when, and_then, Verdict, passed}
 
 -- "ASCII, zero or more lines, each ended by one line feed (byte 10)": the file cut behind each line feed. A rest without a
 -- line feed is a line too, and not well formed.
@@ -32,37 +29,23 @@ pub data Sentence : Type 0 where
   hypothesis : Formula → Sentence
   query : Formula → Sentence
 
-unfoldable pub says : (Formula → Sentence) → Option Formula → Option Sentence
-says letter none = none
-says letter (some x) = some (letter x)
-
--- one more byte in front of a text
-unfoldable pub in_front : ℕ → Option (List ℕ) → Option (List ℕ)
-in_front b none = none
-in_front b (some text) = some (b ∷ text)
-
 -- the bytes before the line feed that ends a text, if one does
 unfoldable pub before_feed : List ℕ → Option (List ℕ)
-before_feed [] = none
-before_feed (b ∷ []) = cond (eqb b line_feed) (some []) none
-before_feed (b ∷ (c ∷ s)) = in_front b (before_feed (c ∷ s))
+before_feed [] = None
+before_feed (b ∷ []) = cond (eqb b line_feed) (Some []) None
+before_feed (b ∷ (c ∷ s)) = option_map (λ (text : List ℕ). b ∷ text) (before_feed (c ∷ s))
 
 unfoldable pub read : (Formula → Sentence) → Option (List ℕ) → Option Sentence
-read letter none = none
-read letter (some text) = says letter (formula_of text)
+read letter text = option_map letter (option_and_then formula_of text)
 
 -- "A line is `H` (hypothesis) or `Q` (query), one space, one formula." What the formula's part of the file is: "the part of
 -- the file that starts after its letter and space and ends before its line feed".
 unfoldable pub sentence_of : List ℕ → Option Sentence
-sentence_of [] = none
-sentence_of (a ∷ []) = none
+sentence_of [] = None
+sentence_of (a ∷ []) = None
 sentence_of (a ∷ (b ∷ text)) =
     cond (alike (a ∷ (b ∷ [])) (bytes "H ")) (read hypothesis (before_feed text))
-    (cond (alike (a ∷ (b ∷ [])) (bytes "Q ")) (read query (before_feed text)) none)
-
-unfoldable pub is_some : {A : Type 0} → Option A → Bool
-is_some none = false
-is_some (some x) = true
+    (cond (alike (a ∷ (b ∷ [])) (bytes "Q ")) (read query (before_feed text)) None)
 
 unfoldable pub is_well_formed : Line → Bool
 is_well_formed line = is_some (sentence_of line.text)
@@ -73,8 +56,8 @@ pub record Entry : Type 0 where
   pub sentence : Sentence
 
 unfoldable pub with_entry : ℕ → Option Sentence → List Entry → List Entry
-with_entry start none rest = rest
-with_entry start (some sentence) rest = record { start = start; sentence = sentence } ∷ rest
+with_entry start None rest = rest
+with_entry start (Some sentence) rest = record { start = start; sentence = sentence } ∷ rest
 
 unfoldable pub entries_from : List Line → List Entry
 entries_from [] = []
@@ -105,7 +88,7 @@ code1 file = when (ltb most_bytes (length file)) 1 0
 
 -- 2: "a line is not well formed", "start of the first such line"
 unfoldable pub code2_from : List Line → Verdict
-code2_from [] = Passed
+code2_from [] = passed
 code2_from (line ∷ rest) = and_then (when (not (is_well_formed line)) 2 line.start) (code2_from rest)
 
 unfoldable pub code2 : List ℕ → Verdict
@@ -116,7 +99,7 @@ unfoldable pub most_nodes : ℕ
 most_nodes = 1024
 
 unfoldable pub code3_from : ℕ → List Entry → Verdict
-code3_from count [] = Passed
+code3_from count [] = passed
 code3_from count (e ∷ rest) =
     let now = count + nodes (formula_in e.sentence) in
     and_then (when (ltb most_nodes now) 3 e.start) (code3_from now rest)
@@ -129,5 +112,5 @@ unfoldable pub most_depth : ℕ
 most_depth = 4
 
 unfoldable pub code4 : List Entry → Verdict
-code4 [] = Passed
+code4 [] = passed
 code4 (e ∷ rest) = and_then (when (ltb most_depth (depth (formula_in e.sentence))) 4 e.start) (code4 rest)

@@ -6,8 +6,7 @@ use Rattle.infon.specs.declared.Answer.TheVariants.{No, Yes, Open}
 use Rattle.infon.specs.declared.Report.{Report}
 use Rattle.infon.specs.Bytes.{some_of}
 use Rattle.infon.specs.Formula.{Formula}
-use Rattle.infon.specs.declared.Verdict.{Verdict}
-use Rattle.infon.specs.Codes.{when, tried, settled}
+use Rattle.infon.specs.Codes.{when, tried, settled, Verdict}
 use Rattle.infon.specs.Policy.{entries_of, hypotheses_of, queries_of, code1, code2, code3, code4}
 use Rattle.infon.specs.Listing.{list_of, code5}
 use Rattle.infon.specs.Calculus.{Derives}

@@ -54,9 +54,10 @@ pub struct Chained {
     pub records: usize,
 }
 
-// What the codes that a function tries say: none applies, or one with its place.
+// A refusal: the code that applies, and its place. (The code is a number and not a name, as 01, the definitions `when` and `First`, and
+// C have it.)
 #[derive(Clone, Copy)]
-pub enum Verdict {
-    Passed,
-    Refused { code: usize, place: usize },
+pub struct Refusal {
+    pub code: usize,
+    pub place: usize,
 }

@@ -6,7 +6,8 @@ use native.Mathlib.Omega.{arith}
 use mathlib.Core.Path.{◌≡◌, refl, sym, ◌∙◌}
 use mathlib.Core.Logic.{⊎_elim}
 use mathlib.Core.Bool.{true, false, false≢true}
-use mathlib.Core.Option.{Option, none, some}
+use Rattle.std.proofs.lemmas.Bool.{cases_Bool}
+use Rattle.std.specs.Prelude.{Option, None, Some}
 use mathlib.Core.List.{List, [], ◌∷◌, ◌++◌, append-nil, append_assoc}
 use lib.ListN.{length, get_or, set, length-set, replicate, length-replicate, get_or-replicate}
 use lib.Seq.{get_or-set_same, get_or-set_other}
@@ -16,7 +17,6 @@ use Rattle.infon.specs.declared.Record.{Record}
 use Rattle.infon.specs.Bytes.{some_of}
 use Rattle.infon.specs.Formula.{Formula}
 use Rattle.infon.specs.Journal.{is_recorded, is_good, decoded, whole_records, record_bytes, followed, only_good, kept_after, kept_of}
-use Rattle.infon.proofs.Rows.{decided}
 use Rattle.infon.proofs.Grown.{GoodRow, stop, more, kept_good}
 use Rattle.infon.proofs.Missing.{recorded_now, recorded_other}
 use Rattle.formulas.specs.Table.{table_rows, flag, Tabled}
@@ -49,14 +49,14 @@ module _ (hyps fs : List Formula) (t : List ℕ) (n : ℕ) where
                   (λ (e : eqb i r.formula ≡ false).
                   let apart = eqb-false i r.formula e in
                   rw (recorded_other i done r apart) (get_or-set_other marks r.formula i 1 0 apart ∙ held.marks_are.marked i h))
-                  (decided (eqb i r.formula));
+                  (cases_Bool (eqb i r.formula));
             };
         below =
             λ i h.
             ⊎_elim
             (λ (e : eqb i r.formula ≡ true). let same = eqb-true i r.formula e in omega arith)
             (λ (e : eqb i r.formula ≡ false). held.below i (sym (recorded_other i done r (eqb-false i r.formula e)) ∙ h))
-            (decided (eqb i r.formula));
+            (cases_Bool (eqb i r.formula));
       }
 
   -- the marks with those of a row of good records
@@ -97,12 +97,12 @@ module _ (hyps fs : List Formula) (t : List ℕ) (n : ℕ) where
           → kept_by t n (set marks r.formula 1) rest ≡ kept_after hyps fs (done ++ (r ∷ [])) rest)
           → followed (only_good_in t n marks o) (λ (r : Record). kept_by t n (set marks r.formula 1) rest)
           ≡ followed (only_good hyps fs done o) (λ (r : Record). kept_after hyps fs (done ++ (r ∷ [])) rest)
-      each none later = refl
-      each (some r) later =
+      each None later = refl
+      each (Some r) later =
           ⊎_elim
           (λ (good : is_good hyps fs done r ≡ true). rw (← good_in_lem hyps fs done t n marks r held, good, later r good))
           (λ (bad : is_good hyps fs done r ≡ false). rw (← good_in_lem hyps fs done t n marks r held, bad))
-          (decided (is_good hyps fs done r))
+          (cases_Bool (is_good hyps fs done r))
 
   -- the kept part over the table is the paper's, and its marks hold it
   pub kept_of_lem : (journal : List ℕ) (used : ℕ) (marks : List ℕ) → Held hyps fs [] t n marks

@@ -1,6 +1,6 @@
 -- What a call for a chain comes to on an accepted file, by the first code that applies.
 -- Assumes nothing.
-use Prim.Native.Nat.{ℕ, zero, suc, ◌-◌, ◌^◌, ◌≤◌, ◌<◌}
+use Prim.Native.Nat.{ℕ, zero, suc, ◌-◌, ◌≤◌, ◌<◌}
 use native.Mathlib.Omega.{arith}
 use mathlib.Core.Path.{◌≡◌, sym, ◌∙◌, ap}
 use mathlib.Core.Bool.{true, false}
@@ -10,10 +10,8 @@ use lib.Dec.{eqb}
 use borrow.Author.Tests.{lt-ltb, le-ltb, eq-eqb, ne_eqb}
 use Rattle.infon.specs.declared.Record.{Record}
 use Rattle.infon.specs.declared.Chained.{Chained}
-use Rattle.infon.specs.declared.Verdict.{Verdict}
-use Rattle.infon.specs.declared.Verdict.TheVariants.{Passed}
 use Rattle.infon.specs.Formula.{Formula, True}
-use Rattle.infon.specs.Codes.{and_then, when, tried, settled}
+use Rattle.infon.specs.Codes.{and_then, when, tried, settled, Verdict, passed}
 use Rattle.infon.specs.Listing.{is_listed}
 use Rattle.infon.specs.Reasons.{reasons}
 use Rattle.infon.specs.Run.{file_codes, file_verdict, is_on_record, code7}
@@ -28,7 +26,7 @@ use Rattle.journal.specs.Kept.{Keeps}
 use Rattle.journal.proofs.Prepared as P
 use Rattle.lending.specs.Lending.{lent_as, Rests}
 
-module _ (file journal : List ℕ) (used count : ℕ) (out : List ℕ) (accepted : file_verdict file ≡ Passed) where
+module _ (file journal : List ℕ) (used count : ℕ) (out : List ℕ) (accepted : file_verdict file ≡ passed) where
   abbrev row : List Record
   row = reasons (list_in file) (query_of (queries_in file) count) (kept_part file journal used)
 
@@ -84,18 +82,15 @@ query_is queries zero low = absurd (omega arith)
 query_is queries (suc i) low = let back : suc i - 1 ≡ i = omega arith in rw back
 
 module _ (file t : List ℕ) (n : ℕ) (numbers : List ℕ) (asked : ℕ) (for_file : PreparedFor file t n numbers asked) (journal : List ℕ) (used count : ℕ)
-    (inside : used ≤ length journal) (low : 1 ≤ count) (high : count ≤ asked) where
+    (inside : used ≤ length journal) (low : 1 ≤ count) (high : count ≤ asked) {number : ℕ} (reads : number ≡ get_or numbers (count - 1) 0) where
   abbrev asks : Formula
   asks = query_of (queries_in file) count
 
-  abbrev number : ℕ
-  number = get_or numbers (count - 1) 0
-
   number_of : number ≡ number_in (list_in file) asks
-  number_of = P.number_is (hypotheses_in file) (list_in file) (queries_in file) t n numbers asked for_file.prepared (count - 1) (omega arith) ∙ ap (number_in (list_in file)) (sym (query_is (queries_in file) count low))
+  number_of = reads ∙ P.number_is for_file.prepared (count - 1) (omega arith) ∙ ap (number_in (list_in file)) (sym (query_is (queries_in file) count low))
 
   asks_listed : is_listed asks (list_in file) ≡ true
-  asks_listed = rw (query_is (queries_in file) count low) (P.query_listed (hypotheses_in file) (list_in file) (queries_in file) t n numbers asked for_file.prepared (count - 1) (omega arith))
+  asks_listed = rw (query_is (queries_in file) count low) (P.query_listed for_file.prepared (count - 1) (omega arith))
 
   pub number_below : number < table_rows
   number_below =
@@ -103,9 +98,6 @@ module _ (file t : List ℕ) (n : ℕ) (numbers : List ℕ) (asked : ℕ) (for_f
       let below = number_in_below (list_in file) asks asks_listed in
       let few = for_file.prepared.table.few in
       omega arith
-
-  pub number_fits : number < 2 ^ 64
-  number_fits = let below = number_below in omega arith
 
   module _ {kept : ℕ} {marks : List ℕ} (keeps : Keeps t n journal used (replicate table_rows 0) kept marks) where
     pub rests_for : Rests (hypotheses_in file) (list_in file) asks journal used kept number
@@ -116,13 +108,13 @@ module _ (file t : List ℕ) (n : ℕ) (numbers : List ℕ) (asked : ℕ) (for_f
           listed = asks_listed;
           number_is = number_of;
           inside = inside;
-          counts = P.kept_is (hypotheses_in file) (list_in file) (queries_in file) t n numbers asked for_file.prepared journal used kept marks keeps;
+          counts = P.kept_is for_file.prepared keeps;
         }
 
     marked_is : eqb (get_or marks number 0) 1 ≡ is_on_record (list_in file) (kept_part file journal used) asks
     marked_is =
         ap (λ (k : ℕ). eqb (get_or marks k 0) 1) number_of
-        ∙ marked_on_record (hypotheses_in file) (list_in file) (kept_part file journal used) t n marks (P.holds_kept (hypotheses_in file) (list_in file) (queries_in file) t n numbers asked for_file.prepared journal used kept marks keeps)
+        ∙ marked_on_record (hypotheses_in file) (list_in file) (kept_part file journal used) t n marks (P.holds_kept for_file.prepared keeps)
         asks asks_listed
 
     pub at_32 : (out : List ℕ) → (get_or marks number 0 ≡ 1 → ⊥) → {told : Chained} → told ≡ (chain_refusal 32 0 []).told

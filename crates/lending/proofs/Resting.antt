@@ -4,7 +4,7 @@ use Prim.Native.Nat.{ℕ, zero, suc, ◌+◌, ◌*◌, ◌/◌, ◌≤◌, ◌<�
 use native.Mathlib.Omega.{arith}
 use mathlib.Core.Path.{◌≡◌, refl, sym, ◌∙◌, ap, ap₂, subst}
 use mathlib.Core.Bool.{Bool, false, ◌||◌, or-false}
-use mathlib.Core.Option.{some}
+use Rattle.std.specs.Prelude.{Some}
 use mathlib.Core.List.{List, [], ◌∷◌, ◌++◌, map, nil≢cons, head-eq_of_cons-eq, tail-eq_of_cons-eq}
 use lib.ListN.{length, take, drop, set, replicate, length-set, length-drop, length-replicate, get_or-replicate}
 use lib.Dec.{eqb}
@@ -30,7 +30,7 @@ use Rattle.lending.specs.Lending.{lent_as, Rests}
 
 -- the record with a count that whole records spell is what is read at its place
 read_at : (k : ℕ) (s : List ℕ) (rs front rest : List Record) (r : Record) → record_bytes * k ≤ length s
-    → map decoded (take (length rs) (whole_records k s)) ≡ map some rs → rs ≡ front ++ (r ∷ rest) → record_at s (record_bytes * length front) ≡ some r
+    → map decoded (take (length rs) (whole_records k s)) ≡ map Some rs → rs ≡ front ++ (r ∷ rest) → record_at s (record_bytes * length front) ≡ Some r
 unfolding whole_records record_at
 read_at zero s rs [] rest r long spell e = absurd (nil≢cons (rw e at spell))
 read_at zero s rs (q ∷ front) rest r long spell e = absurd (nil≢cons (rw e at spell))
@@ -59,7 +59,7 @@ only_number number p low =
 eqb_swap : (a b : ℕ) → eqb a b ≡ eqb b a
 eqb_swap a b = same_test (eqb a b) (eqb b a) (λ h. eq-eqb b a (sym (eqb-true a b h))) (λ h. eq-eqb a b (sym (eqb-true b a h)))
 
-module _ (hyps fs : List Formula) (x : Formula) (journal : List ℕ) (used kept number : ℕ) (rests : Rests hyps fs x journal used kept number) where
+module _ {hyps fs : List Formula} {x : Formula} {journal : List ℕ} {used kept number : ℕ} (rests : Rests hyps fs x journal used kept number) where
   abbrev rs : List Record
   rs = kept_of hyps fs journal used
 

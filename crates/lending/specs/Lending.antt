@@ -41,11 +41,11 @@ LendsReasons journal kept number out told after =
     (lent (reasons fs x (kept_of hyps fs journal used)) out)
 
 -- Some file is accepted and prepared so.
-pub record Lendable (t : List ℕ) (n : ℕ) (numbers : List ℕ) (asked : ℕ) : Type 0 where
+pub record Lendable (t : List ℕ) (n : ℕ) (numbers : List ℕ) : Type 0 where
   pub file : List ℕ
-  pub for_file : PreparedFor file t n numbers asked
+  pub for_file : PreparedFor file t n numbers (length numbers)
 
 -- What is left is what 02 says, for whatever file is prepared so.
-abbrev pub Lends : List ℕ → ℕ → List ℕ → ℕ → List ℕ → ℕ → ℕ → List ℕ → Chained → List ℕ → Type 0
-Lends t n numbers asked journal used count out told after =
-    (file : List ℕ) → PreparedFor file t n numbers asked → lent_as told after ≡ chain file journal used count out
+abbrev pub Lends : List ℕ → ℕ → List ℕ → List ℕ → ℕ → ℕ → List ℕ → Chained → List ℕ → Type 0
+Lends t n numbers journal used count out told after =
+    (file : List ℕ) → PreparedFor file t n numbers (length numbers) → lent_as told after ≡ chain file journal used count out

@@ -5,15 +5,17 @@ ghost use Rattle.std.specs.Prelude.{◌≡◌, []};
 ghost use Rattle.infon.specs.Chain.{chain_refusal};
 ghost use Rattle.lending.specs.Lending.{Restable, LendsReasons, Lendable, Lends};
 
-use infon::{Chained, RECORD_BYTES};
+use formulas::Formulas;
+use infon::{Chained, RECORD_BYTES, Refusal};
 
 // What a refusal returns: its code and place, and no records.
-pub fn refused(code: usize, place: usize) -> Chained
-    ensures { result ≡ (chain_refusal code place []).told }
+#[tactic(auto, unfolding(infon::specs::Chain::chain_refusal))]
+pub fn refused(by: Refusal) -> Chained
+    ensures { result ≡ (chain_refusal by.code by.place []).told }
 {
     Chained {
-        code,
-        place,
+        code: by.code,
+        place: by.place,
         records: 0,
     }
 }
@@ -27,7 +29,7 @@ fn lend_reasons(journal: &[u8], kept: usize, number: usize, out: &mut [u8]) -> C
     reasons::want(&mut wanted, number);
     let records = reasons::choose(journal, kept, &mut wanted);
     if out.len() < RECORD_BYTES * records {
-        return refused(33, 0);
+        return refused(Refusal { code: 33, place: 0 });
     }
     reasons::lend(journal, kept, &wanted, out);
     Chained {
@@ -39,33 +41,28 @@ fn lend_reasons(journal: &[u8], kept: usize, number: usize, out: &mut [u8]) -> C
 
 // The chain of the query with a count, from 1, in the journal's kept part.
 pub fn lend_chain(
-    table: &[u16],
-    n: usize,
+    list: Formulas,
     queries: &[u16],
-    asked: usize,
     journal: &[u8],
     used: usize,
     count: usize,
     out: &mut [u8],
 ) -> Chained
-    requires { Lendable table.now n queries.now asked }
-    ensures { Lends table.now n queries.now asked journal.now used count out.old result
+    requires { Lendable list.table.now list.n queries.now }
+    ensures { Lends list.entry.table.now list.entry.n queries.now journal.now used count out.old result
         out.new }
 {
     if journal.len() < used {
-        return refused(7, 0);
+        return refused(Refusal { code: 7, place: 0 });
     }
-    if count == 0 {
-        return refused(31, 0);
-    }
-    if asked < count {
-        return refused(31, 0);
+    if count == 0 || queries.len() < count {
+        return refused(Refusal { code: 31, place: 0 });
     }
     let mut marks = [0u8; formulas::ROWS];
-    let kept = journal::keep(table, n, journal, used, &mut marks);
-    let number = queries[count - 1] as usize;
+    let kept = journal::keep(list, journal, used, &mut marks);
+    let number = usize::from(queries[count - 1]);
     if marks[number] != 1 {
-        return refused(32, 0);
+        return refused(Refusal { code: 32, place: 0 });
     }
     lend_reasons(journal, kept, number, out)
 }

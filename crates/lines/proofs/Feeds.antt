@@ -3,36 +3,34 @@
 -- Assumes nothing.
 use Prim.Native.Nat.{ℕ, suc, ◌+◌, ◌-◌, ◌≤◌, ◌<◌}
 use native.Mathlib.Omega.{arith}
+use native.Mathlib.Numerals.{one-add}
 use mathlib.Core.Path.{◌≡◌, refl, sym, ◌∙◌, ap, subst}
 use mathlib.Core.Logic.{◌⊎◌, inl, inr}
-use mathlib.Core.Bool.{Bool, true, false, cond, ◌&&◌, ◌||◌, not, false≢true}
-use mathlib.Core.Option.{Option, none, some}
+use mathlib.Core.Bool.{Bool, true, false, cond, ◌||◌, not, false≢true}
+use Rattle.std.proofs.lemmas.Bool.{and_parts, cases_Bool}
+use Rattle.std.specs.Prelude.{Option, None, Some, option_map}
 use mathlib.Core.List.{List, [], ◌∷◌, ◌++◌}
 use lib.ListN.{length, get_or, take, drop, length-take, length-drop, drop_of_length-le}
 use lib.Seq.{drop-cons, drop-drop, take-suc, take_all, get_or-drop}
 use lib.Dec.{eqb}
-use borrow.Author.Tests.{eqb-true, eq-eqb, ne_eqb}
+use borrow.Author.Tests.{eqb-true}
 use Rattle.infon.specs.Bytes.{bytes, line_feed, alike, every}
 use Rattle.infon.specs.Formula.{Formula, onto, spelling, formula_of}
-use Rattle.infon.specs.declared.Verdict.TheVariants.{Passed, Refused}
-use Rattle.infon.specs.Codes.{when, and_then}
-use Rattle.infon.specs.Policy.{cut, Line, placed, lines_of, Sentence, hypothesis, query, says, read, before_feed, sentence_of, is_some, is_well_formed, formula_in, code2_from, code2}
-use Rattle.infon.proofs.Rows.{and_true, decided}
+use Rattle.infon.specs.Codes.{when, and_then, passed, refused}
+use Rattle.infon.specs.Policy.{cut, Line, placed, lines_of, Sentence, hypothesis, query, read, before_feed, sentence_of, is_well_formed, formula_in, code2_from, code2}
+use Rattle.std.specs.Prelude.{is_some, take_while}
 use Rattle.infon.proofs.Words.{lacks, cons_lacks, every_append}
 use Rattle.infon.proofs.Lines.{cut_line_feed, cut_byte, before_feed_ended, opening, line_read}
-use Rattle.spelling.specs.Token.{until_first}
-use Rattle.spelling.proofs.Breaks.{until_stop, until_turn, until_fits, until_passes}
+use Rattle.spelling.proofs.Breaks.{until_fits, until_passes}
+use Rattle.std.proofs.lemmas.List.Folds.{length-prefix_len}
 use Rattle.lines.specs.Lining.{is_feed, until_feed, is_opening}
 
--- Counting to the line feed.
-module _ (file : List ℕ) (i : ℕ) where
-  pub feed_stop : i < length file → get_or file i 0 ≡ 10 → until_feed (drop i file) ≡ 0
-  unfolding line_feed
-  feed_stop h e = until_stop is_feed file i h (eq-eqb (get_or file i 0) 10 e)
-
-  pub feed_turn : i < length file → (get_or file i 0 ≡ 10 → ⊥) → until_feed (drop i file) ≡ 1 + until_feed (drop (i + 1) file)
-  unfolding line_feed
-  feed_turn h e = until_turn is_feed file i h (ne_eqb (get_or file i 0) 10 e)
+-- the place of the line feed that ends the line which starts at a place
+pub line_ends : (file : List ℕ) (start n : ℕ) → start ≤ length file
+    → n ≡ length (take_while (λ b. not (is_feed b)) (take (length file - start) (drop start file))) → start + n ≡ start + until_feed (drop start file)
+line_ends file start n h e =
+    let whole : take (length file - start) (drop start file) ≡ drop start file = take_all (length file - start) (drop start file) (omega (arith, length-drop start file)) in
+    ap (λ k. start + k) (e ∙ ap (λ s. length (take_while (λ b. not (is_feed b)) s)) whole ∙ length-prefix_len (λ b. not (is_feed b)) (drop start file))
 
 -- the byte there is a line feed, or there is none
 feed_found : (s : List ℕ) → until_feed s < length s → get_or s (until_feed s) 0 ≡ line_feed
@@ -41,14 +39,14 @@ feed_found s h =
     (until_passes is_feed s (get_or s (until_feed s) 0) (drop (suc (until_feed s)) s) (drop-cons s (until_feed s) 0 h))
 
 feed_none : (s : List ℕ) → length s ≤ until_feed s → lacks line_feed s ≡ true
-unfolding until_first lacks every
+unfolding lacks every
 feed_none [] h = refl
-feed_none (b ∷ s) h = by_byte (feed_none s) (decided (eqb b line_feed)) h
+feed_none (b ∷ s) h = by_byte (feed_none s) (cases_Bool (eqb b line_feed)) h
   where
     by_byte : (length s ≤ until_feed s → lacks line_feed s ≡ true) → (eqb b line_feed ≡ true) ⊎ (eqb b line_feed ≡ false)
-        → suc (length s) ≤ cond (eqb b line_feed) 0 (suc (until_feed s)) → lacks line_feed (b ∷ s) ≡ true
+        → suc (length s) ≤ cond (not (eqb b line_feed)) (1 + until_feed s) 0 → lacks line_feed (b ∷ s) ≡ true
     by_byte later (inl e) k = let none_left : suc (length s) ≤ 0 = rw e at k in absurd (omega arith)
-    by_byte later (inr e) k = let shorter : suc (length s) ≤ suc (until_feed s) = rw e at k in cons_lacks line_feed b s e (later (omega arith))
+    by_byte later (inr e) k = let shorter : suc (length s) ≤ 1 + until_feed s = rw e at k in cons_lacks line_feed b s e (later (omega arith))
 
 cut_nil : cut [] ≡ []
 unfolding cut
@@ -56,32 +54,31 @@ cut_nil = refl
 
 -- the first line of a text
 pub cut_first : (s : List ℕ) → 0 < length s → cut s ≡ take (suc (until_feed s)) s ∷ cut (drop (suc (until_feed s)) s)
-unfolding until_first onto
+unfolding onto
 cut_first [] h = absurd (omega arith)
-cut_first (b ∷ []) h = by_byte (decided (eqb b line_feed))
+cut_first (b ∷ []) h = by_byte (cases_Bool (eqb b line_feed))
   where
     by_byte : (eqb b line_feed ≡ true) ⊎ (eqb b line_feed ≡ false)
-        → cut (b ∷ []) ≡ take (suc (cond (eqb b line_feed) 0 1)) (b ∷ []) ∷ cut (drop (suc (cond (eqb b line_feed) 0 1)) (b ∷ []))
+        → cut (b ∷ []) ≡ take (suc (cond (not (eqb b line_feed)) 1 0)) (b ∷ []) ∷ cut (drop (suc (cond (not (eqb b line_feed)) 1 0)) (b ∷ []))
     by_byte (inl e) = rw (e, eqb-true b line_feed e) (cut_line_feed [])
     by_byte (inr e) = rw e (cut_byte b [] e ∙ ap (onto b) cut_nil ∙ ap (λ rest. (b ∷ []) ∷ rest) (sym cut_nil))
-cut_first (b ∷ (c ∷ s)) h = by_byte (cut_first (c ∷ s) (omega arith)) (decided (eqb b line_feed))
+cut_first (b ∷ (c ∷ s)) h = by_byte (cut_first (c ∷ s) (omega arith)) (cases_Bool (eqb b line_feed))
   where
     by_byte : cut (c ∷ s) ≡ take (suc (until_feed (c ∷ s))) (c ∷ s) ∷ cut (drop (suc (until_feed (c ∷ s))) (c ∷ s))
         → (eqb b line_feed ≡ true) ⊎ (eqb b line_feed ≡ false)
         → cut (b ∷ (c ∷ s))
-        ≡ take (suc (cond (eqb b line_feed) 0 (suc (until_feed (c ∷ s))))) (b ∷ (c ∷ s)) ∷ cut (drop (suc (cond (eqb b line_feed) 0 (suc (until_feed (c ∷ s))))) (b ∷ (c ∷ s)))
+        ≡ take (suc (cond (not (eqb b line_feed)) (1 + until_feed (c ∷ s)) 0)) (b ∷ (c ∷ s)) ∷ cut (drop (suc (cond (not (eqb b line_feed)) (1 + until_feed (c ∷ s)) 0)) (b ∷ (c ∷ s)))
     by_byte later (inl e) = rw (e, eqb-true b line_feed e) (cut_line_feed (c ∷ s))
-    by_byte later (inr e) = rw e (cut_byte b (c ∷ s) e ∙ ap (onto b) later)
+    by_byte later (inr e) = rw (e, one-add (until_feed (c ∷ s))) (cut_byte b (c ∷ s) e ∙ ap (onto b) later)
 
 -- A line of a letter, a space, a text and a line feed says something exactly if the text is a formula.
-opened : (t u : Bool) (o : Option Formula) → is_some (cond t (says hypothesis o) (cond u (says query o) none)) ≡ cond (t || u) (is_some o) false
-unfolding is_some says
-opened true u none = refl
-opened true u (some x) = refl
-opened false true none = refl
-opened false true (some x) = refl
-opened false false none = refl
-opened false false (some x) = refl
+opened : (t u : Bool) (o : Option Formula) → is_some (cond t (option_map hypothesis o) (cond u (option_map query o) None)) ≡ cond (t || u) (is_some o) false
+opened true u None = refl
+opened true u (Some x) = refl
+opened false true None = refl
+opened false true (Some x) = refl
+opened false false None = refl
+opened false false (Some x) = refl
 
 sentence_part : (a b : ℕ) (text : List ℕ)
     → is_some (sentence_of (a ∷ (b ∷ (text ++ (line_feed ∷ []))))) ≡ cond (is_opening a b) (is_some (formula_of text)) false
@@ -91,28 +88,28 @@ sentence_part a b text =
     (opened (alike (a ∷ (b ∷ [])) (bytes "H ")) (alike (a ∷ (b ∷ [])) (bytes "Q ")) (formula_of text))
 
 short_line : (line : List ℕ) → length line ≤ 2 → is_some (sentence_of line) ≡ false
-unfolding is_some sentence_of read before_feed
+unfolding sentence_of read before_feed
 short_line [] h = refl
 short_line (a ∷ []) h = refl
 short_line (a ∷ (b ∷ [])) h = none_there (alike (a ∷ (b ∷ [])) (bytes "H ")) (alike (a ∷ (b ∷ [])) (bytes "Q "))
   where
-    none_there : (t u : Bool) → is_some {A = Sentence} (cond t none (cond u none none)) ≡ false
+    none_there : (t u : Bool) → is_some (cond {A = Option Sentence} t None (cond u None None)) ≡ false
     none_there true u = refl
     none_there false true = refl
     none_there false false = refl
 short_line (a ∷ (b ∷ (c ∷ line))) h = absurd (omega arith)
 
 said_feed : (line : List ℕ) (o : Option Sentence) → sentence_of line ≡ o → lacks line_feed line ≡ true → is_some o ≡ false
-unfolding is_some lacks line_feed every
-said_feed line none e h = refl
-said_feed line (some s) e h =
+unfolding lacks line_feed every
+said_feed line None e h = refl
+said_feed line (Some s) e h =
     let text = spelling (formula_in s) in
     let all : lacks line_feed (opening s ++ (text ++ (line_feed ∷ []))) ≡ true = subst (λ t. lacks line_feed t ≡ true) (line_read line s e).0 h in
     let behind =
-    and_true (lacks line_feed (opening s)) (lacks line_feed (text ++ (line_feed ∷ [])))
+    and_parts (lacks line_feed (opening s)) (lacks line_feed (text ++ (line_feed ∷ [])))
     (sym (every_append (λ c. not (eqb c line_feed)) (opening s) (text ++ (line_feed ∷ []))) ∙ all) in
     let last =
-    and_true (lacks line_feed text) (lacks line_feed (line_feed ∷ []))
+    and_parts (lacks line_feed text) (lacks line_feed (line_feed ∷ []))
     (sym (every_append (λ c. not (eqb c line_feed)) text (line_feed ∷ [])) ∙ behind.1) in
     absurd (false≢true last.1)
 
@@ -175,36 +172,12 @@ module _ (file : List ℕ) (start end : ℕ) (inside : start < length file) (at-
     pub line_unopened : is_opening (get_or file start 0) (get_or file (start + 1) 0) ≡ false → false ≡ is_some (sentence_of line_at)
     line_unopened e = sym (line_said ∙ rw e)
 
--- the two bytes that a line begins with
-module _ (letter gap : ℕ) where
-  pub no_gap : (gap ≡ 32 → ⊥) → false ≡ is_opening letter gap
-  unfolding is_opening alike bytes
-  no_gap h = rw (ne_eqb gap 32 h) (none_there (eqb letter 72) (eqb letter 81))
-    where
-      none_there : (t u : Bool) → false ≡ (t && false) || (u && false)
-      none_there true true = refl
-      none_there true false = refl
-      none_there false true = refl
-      none_there false false = refl
-
-  pub hypothesis_opens : gap ≡ 32 → letter ≡ 72 → true ≡ is_opening letter gap
-  unfolding is_opening alike bytes
-  hypothesis_opens h e = rw (e, h)
-
-  pub query_opens : gap ≡ 32 → (letter ≡ 72 → ⊥) → eqb letter 81 ≡ is_opening letter gap
-  unfolding is_opening alike bytes
-  query_opens h e = rw (h, ne_eqb letter 72 e) (and_true_right (eqb letter 81))
-    where
-      and_true_right : (t : Bool) → t ≡ t && true
-      and_true_right true = refl
-      and_true_right false = refl
-
 -- Code 2, line by line.
 pub code2_begin : (file : List ℕ) → code2 file ≡ code2_from (placed 0 (cut (drop 0 file)))
 unfolding code2 lines_of
 code2_begin file = refl
 
-pub code2_over : (file : List ℕ) (start : ℕ) → length file ≤ start → code2_from (placed start (cut (drop start file))) ≡ Passed
+pub code2_over : (file : List ℕ) (start : ℕ) → length file ≤ start → code2_from (placed start (cut (drop start file))) ≡ passed
 unfolding code2_from placed
 code2_over file start h = rw (drop_of_length-le file h, cut_nil)
 
@@ -220,7 +193,7 @@ module _ (file : List ℕ) (start : ℕ) (inside : start < length file) where
   unfolding placed
   lines_first = rw (cut_first (drop start file) (omega (arith, length-drop start file)))
 
-  pub code2_stop : is_some (sentence_of first_line) ≡ false → code2_from lines_here ≡ Refused 2 start
+  pub code2_stop : is_some (sentence_of first_line) ≡ false → code2_from lines_here ≡ refused 2 start
   unfolding code2_from is_well_formed when and_then
   code2_stop h = ap code2_from lines_first ∙ rw h
 

@@ -12,12 +12,14 @@ use lib.ListN.{length, get_or, set, length-set}
 use lib.Seq.{get_or-set_same, get_or-set_other}
 use lib.Dec.{ltb, eqb}
 use borrow.Author.Tests.{lt-ltb, le-ltb, ltb-true, ltb-false, eqb-true, eqb-false}
+use Rattle.std.proofs.lemmas.Bool.{cases_Bool}
 use Rattle.infon.specs.Formula.{Formula}
 use Rattle.infon.specs.Rules.{numbered}
-use Rattle.infon.proofs.Rows.{decided}
-use Rattle.formulas.specs.Table.{table_rows, table_cells, no_number, cell, cell_of, bottom_of, Tabled}
+use Rattle.formulas.specs.Table.{table_rows, no_number, cell, cell_of, bottom_of, Tabled}
 use Rattle.formulas.proofs.Numbers.{number_in_below}
-use Rattle.links.specs.Chains.{link_cells, FirstFrom, ChainOf, Searchable, none_first, link_place, link_down, chain_in, linked_in}
+use Rattle.links.specs.declared.Chain.{Chain}
+use Rattle.links.specs.declared.Chain.TheVariants as Of
+use Rattle.links.specs.Chains.{link_cells, FirstFrom, ChainOf, chain_column, chain_start, shared_at, Searchable, none_first, link_place, link_down, chain_in, linked_in}
 
 -- one place more in front, which holds another number
 widen : (t : List ℕ) (column x n i place : ℕ) → FirstFrom t column x n (suc i) place → (cell t column i ≡ x → ⊥)
@@ -95,7 +97,7 @@ module _ (t : List ℕ) (column n at : ℕ) (few : n ≤ 4096) where
               (λ (other : eqb (cell t column i) x ≡ false).
               let ne = eqb-false (cell t column i) x other in
               rw (first_other x h ne) (widen t column x n i (get_or links (at + x) 0) (up.first x h) ne))
-              (decided (eqb (cell t column i) x));
+              (cases_Bool (eqb (cell t column i) x));
           next =
               λ j low high there.
               ⊎_elim
@@ -131,7 +133,7 @@ module _ (t : List ℕ) (column n at : ℕ) (few : n ≤ 4096) where
       (λ (h : ltb (cell t column i) n ≡ false).
       let out = ltb-false (cell t column i) n h in
       rw (unlinked i links out) (up_unlinked i links out up))
-      (decided (ltb (cell t column i) n))
+      (cases_Bool (ltb (cell t column i) n))
 
   up_down : (i : ℕ) (links : List ℕ) → i ≤ n → UpTo i links → UpTo 0 (link_down t column n at i links)
   unfolding link_down
@@ -182,7 +184,7 @@ module _ (t : List ℕ) (column n at : ℕ) (few : n ≤ 4096) where
       ∙ get_or-set_other links (at + 4096 + i) k (get_or links (at + cell t column i) 0) 0
       (λ e. ⊎_elim (λ (low : k < at). omega arith) (λ (high : at + 8192 ≤ k). omega arith) out)))
       (λ (h : ltb (cell t column i) n ≡ false). rw h)
-      (decided (ltb (cell t column i) n))
+      (cases_Bool (ltb (cell t column i) n))
 
   down_kept : (i k : ℕ) (links : List ℕ) → i ≤ n → Out k → get_or (link_down t column n at i links) k 0 ≡ get_or links k 0
   unfolding link_down
@@ -201,7 +203,7 @@ module _ (t : List ℕ) (column n at : ℕ) (few : n ≤ 4096) where
   unfolding link_place
   place_length i links =
       ⊎_elim (λ (h : ltb (cell t column i) n ≡ true). rw h (simp length-set)) (λ (h : ltb (cell t column i) n ≡ false). rw h)
-      (decided (ltb (cell t column i) n))
+      (cases_Bool (ltb (cell t column i) n))
 
   down_length : (i : ℕ) (links : List ℕ) → length (link_down t column n at i links) ≡ length links
   unfolding link_down
@@ -237,33 +239,43 @@ chain_stays t column n at links after few kept chain =
     }
 
 -- what `link` leaves is what the search asks for
-pub linked_ready : (t links marks : List ℕ) (n : ℕ) → n ≤ table_rows → table_cells ≤ length t → link_cells ≤ length links → n ≤ length marks
-    → ((i : ℕ) → i < n → cell t 4 i < n) → Searchable t (linked_in t n links) marks n
+pub linked_ready : (t links : List ℕ) (n : ℕ) → n ≤ table_rows → link_cells ≤ length links → ((i : ℕ) → i < n → cell t 4 i < n)
+    → Searchable t (linked_in t n links) n
 unfolding linked_in Out
-linked_ready t links marks n few wide long room below =
+linked_ready t links n few long below =
     let one : List ℕ = chain_in t 2 n 0 links in
     let two : List ℕ = chain_in t 3 n 8192 one in
     let three : List ℕ = chain_in t 4 n 16384 two in
     let length_one = chain_length t 2 n 0 few links in
     let length_two = chain_length t 3 n 8192 few one in
-    let length_three = chain_length t 4 n 16384 few two in
     record {
-      few = few;
-      table_long = wide;
-      links_long = omega arith;
-      marks_long = room;
+      links_long = rw (chain_length t 4 n 16384 few two, length_two, length_one) long;
       below = below;
-      left_chains =
-          chain_stays t 2 n 0 one three few
+      chains =
+          λ chain.
+          each
+          (chain_stays t 2 n 0 one three few
           (λ k low high.
           chain_kept t 4 n 16384 few k two (inl (omega arith)) ∙ chain_kept t 3 n 8192 few k one (inl (omega arith)))
-          (chain_linked t 2 n 0 few links (omega arith));
-      right_chains =
-          chain_stays t 3 n 8192 two three few
+          (chain_linked t 2 n 0 few links (omega arith)))
+          (chain_stays t 3 n 8192 two three few
           (λ k low high. chain_kept t 4 n 16384 few k two (inl (omega arith)))
-          (chain_linked t 3 n 8192 few one (omega arith));
-      bottom_chains = chain_linked t 4 n 16384 few two (omega arith);
+          (chain_linked t 3 n 8192 few one (omega arith)))
+          (chain_linked t 4 n 16384 few two (omega arith))
+          chain;
     }
+  where
+    each : {after : List ℕ} → ChainOf t 2 n after 0 → ChainOf t 3 n after 8192 → ChainOf t 4 n after 16384
+        → (chain : Chain) → ChainOf t (chain_column chain) n after (chain_start chain)
+    each left right bottom Of.Left = left
+    each left right bottom Of.Right = right
+    each left right bottom Of.Bottom = bottom
+
+-- what f shares with the formulas of a chain is on the list
+pub shared_below : {t links : List ℕ} {n f : ℕ} (chain : Chain) → Searchable t links n → f < n → shared_at t chain f < n
+shared_below Of.Left ready h = h
+shared_below Of.Right ready h = h
+shared_below {f = f} Of.Bottom ready h = ready.below f h
 
 -- the bottoms of a list that a table holds are on it
 pub bottoms_below : (hyps fs : List Formula) (t : List ℕ) (n : ℕ) → length fs ≡ n → Tabled hyps fs t → (i : ℕ) → i < n

@@ -1,7 +1,9 @@
 -- The chains: for a column of the formula table, the formulas that hold the same number there, from the least on.
-use Rattle.std.specs.Prelude.{ℕ, zero, suc, ◌+◌, ◌≤◌, ◌<◌, ◌≡◌, cond, List, length, get_or, set, ltb}
-use Rattle.formulas.specs.Table.{no_number, table_rows, table_cells, cell}
+use Rattle.std.specs.Prelude.{ℕ, zero, suc, ◌+◌, ◌≤◌, ◌<◌, ◌≡◌, cond, List, length, get_or, set, ltb, Option, None, Some}
+use Rattle.formulas.specs.Table.{no_number, table_rows, cell}
 use Rattle.formulas.specs.Tests.{left_at, right_at, bottom_at}
+use Rattle.links.specs.declared.Chain.{Chain}
+use Rattle.links.specs.declared.Chain.TheVariants as Of
 
 -- The chains of a column begin at a place of their own in the links: first 4,096 entries that say, by number, where the number
 -- first stands in the column, then 4,096 that say, by place, where what stands there stands next. Three columns have chains.
@@ -37,16 +39,35 @@ pub record ChainOf (t : List ℕ) (column n : ℕ) (links : List ℕ) (at : ℕ)
   pub next : (i : ℕ) → i < n → cell t column i < n
       → FirstFrom t column (cell t column i) n (suc i) (get_or links (next_entry at i) 0)
 
+-- The place that stands in an entry: none where it is not below n. And the same of it: the first from j on at which the column holds x.
+abbrev pub place_below : ℕ → ℕ → Option ℕ
+place_below n place = cond (ltb place n) (Some place) None
+
+abbrev pub FoundFrom : List ℕ → ℕ → ℕ → ℕ → ℕ → Option ℕ → Type 0
+FoundFrom t column x n j (Some place) = (place < n) × FirstFrom t column x n j place
+FoundFrom t column x n j None = FirstFrom t column x n j n
+
+-- a chain's column, where it begins, and the number of what f shares with its formulas
+abbrev pub chain_column : Chain → ℕ
+chain_column Of.Left = left_at
+chain_column Of.Right = right_at
+chain_column Of.Bottom = bottom_at
+
+abbrev pub chain_start : Chain → ℕ
+chain_start Of.Left = lefts
+chain_start Of.Right = rights
+chain_start Of.Bottom = bottoms
+
+abbrev pub shared_at : List ℕ → Chain → ℕ → ℕ
+shared_at t Of.Left f = f
+shared_at t Of.Right f = f
+shared_at t Of.Bottom f = cell t bottom_at f
+
 -- What the search for a way asks of its tables: room, all bottoms on the list, and the three chains.
-pub record Searchable (t : List ℕ) (links marks : List ℕ) (n : ℕ) : Type 0 where
-  pub few : n ≤ table_rows
-  pub table_long : table_cells ≤ length t
+pub record Searchable (t links : List ℕ) (n : ℕ) : Type 0 where
   pub links_long : link_cells ≤ length links
-  pub marks_long : n ≤ length marks
   pub below : (i : ℕ) → i < n → cell t bottom_at i < n
-  pub left_chains : ChainOf t left_at n links lefts
-  pub right_chains : ChainOf t right_at n links rights
-  pub bottom_chains : ChainOf t bottom_at n links bottoms
+  pub chains : (chain : Chain) → ChainOf t (chain_column chain) n links (chain_start chain)
 
 -- How the links are filled, from the last place to the first: a place becomes the first of the number that stands there, and
 -- what was its first comes next.

@@ -2,79 +2,130 @@
 // put at every place.
 #![tactic(auto)]
 
-ghost use Rattle.std.specs.Prelude.{◌≡◌, ◌+◌, ◌<◌, ◌≤◌, length, get_or};
-ghost use Rattle.formulas.specs.Table.{table_rows, table_cells, table_columns};
-ghost use Rattle.links.specs.Chains.{link_cells, chain_cells, none_first, link_place, chain_in, linked_in};
+ghost use Rattle.std.specs.Prelude.{◌≡◌, ◌<◌, ◌≤◌, suc, length, get_or};
+ghost use Rattle.formulas.specs.Table.{cell};
+ghost use Rattle.formulas.specs.Columns.{column_number};
+ghost use Rattle.links.specs.Chains.{link_cells, chain_column, chain_start, shared_at, none_first, link_place, chain_in, linked_in, place_below, FoundFrom, Searchable};
 
-use formulas::{BOTTOM, LEFT, RIGHT};
+use formulas::{Column, Formulas, NO_NUMBER};
+
+// How many cells a column's chains have: as many first places, by number, and next places, by place.
+const CHAIN: usize = 2 * formulas::ROWS;
 
 // How many cells the links have.
 pub const CELLS: usize = 24576;
 
-// Where the chains of a column begin in the links, and how far on the entries by place do.
-pub const LEFTS: usize = 0;
+pub type Links = [u16; CELLS];
 
-pub const RIGHTS: usize = 8192;
+// What the formulas of a chain share: the left part, the right part, or the form with put at every place.
+#[derive(Clone, Copy, PartialEq, Eq)]
+pub enum Chain {
+    Left,
+    Right,
+    Bottom,
+}
 
-pub const BOTTOMS: usize = 16384;
+impl Chain {
+    // The column that has the number of what is shared.
+    fn column(self) -> Column
+        ensures { column_number result ≡ chain_column self }
+    {
+        match self {
+            Chain::Left => Column::Left,
+            Chain::Right => Column::Right,
+            Chain::Bottom => Column::Bottom,
+        }
+    }
 
-pub const NEXTS: usize = formulas::ROWS;
+    // Where the chains begin in the links.
+    fn start(self) -> usize
+        ensures { result ≡ chain_start self }
+    {
+        self as usize * CHAIN
+    }
+}
 
-// Stands for no place.
-const NONE: u16 = formulas::NO_NUMBER as u16;
+// A list with its chains.
+#[derive(Clone, Copy)]
+pub struct Search<'a> {
+    pub list: Formulas<'a>,
+    pub links: &'a [u16],
+    ghost ready: { Searchable list.table.now links.now list.n },
+}
 
-// Says of each number below n that it stands nowhere yet.
-fn clear_firsts(links: &mut [u16], at: usize, n: usize)
-    requires { (n ≤ table_rows) × (at + table_rows ≤ length links.old) }
-    ensures { links.new ≡ none_first at n links.old }
+impl<'a> Search<'a> {
+    // The place in an entry of the links, none where no listed formula has it.
+    fn place(self, entry: usize) -> Option<usize>
+        requires { entry < link_cells }
+        ensures { result ≡ place_below self.entry.list.n (get_or self.entry.links.now entry 0) }
+    {
+        let place = usize::from(self.links[entry]);
+        if place < self.list.n {
+            Some(place)
+        } else {
+            None
+        }
+    }
+
+    // The first formula that shares with f what a chain is for, by their numbers.
+    pub fn first(self, chain: Chain, f: usize) -> Option<usize>
+        requires { f < self.list.n }
+        ensures { FoundFrom self.entry.list.table.now (chain_column chain) (shared_at self.entry.list.table.now chain f) self.entry.list.n 0 result }
+    {
+        let shared = match chain {
+            Chain::Left | Chain::Right => f,
+            Chain::Bottom => self.list.at(Column::Bottom, f),
+        };
+        self.place(chain.start() + shared)
+    }
+
+    // The next formula of a chain behind p.
+    pub fn next(self, chain: Chain, p: usize) -> Option<usize>
+        requires { (p < self.list.n) × (cell self.list.table.now (chain_column chain) p < self.list.n) }
+        ensures { FoundFrom self.entry.list.table.now (chain_column chain) (cell self.entry.list.table.now (chain_column chain) p) self.entry.list.n (suc p) result }
+    {
+        self.place(chain.start() + formulas::ROWS + p)
+    }
+}
+
+// Says of each listed number that it stands nowhere yet.
+fn clear_firsts(list: Formulas, links: &mut Links, chain: Chain)
+    ensures { links.new ≡ none_first (chain_start chain) list.entry.n links.old }
 {
-    let mut x = n;
-    while 0 < x {
-        x -= 1;
-        links[at + x] = NONE;
+    let at = chain.start();
+    for x in (0..list.n).rev() {
+        links[at + x] = NO_NUMBER;
     }
 }
 
 // Puts a place in front of the chain of the number that stands there.
-fn link_place(table: &[u16], column: usize, n: usize, links: &mut [u16], at: usize, i: usize)
-    requires { (n ≤ table_rows) × (table_cells ≤ length table.now) × (column < table_columns) × (at + chain_cells ≤ length links.old) × (i < n) }
-    ensures { links.new ≡ link_place table.now column n at i links.old }
+fn link_place(list: Formulas, links: &mut Links, chain: Chain, i: usize)
+    requires { i < list.n }
+    ensures { links.new ≡ link_place list.entry.table.now (chain_column chain) list.entry.n (chain_start chain) i links.old }
 {
-    let x = formulas::cell_at(table, column, i);
-    if x < n {
-        let first = links[at + x];
-        links[at + NEXTS + i] = first;
+    let at = chain.start();
+    let x = list.at(chain.column(), i);
+    if x < list.n {
+        links[at + formulas::ROWS + i] = links[at + x];
         links[at + x] = i as u16;
     }
 }
 
 // Fills the chains of one column.
-fn chain(table: &[u16], column: usize, n: usize, links: &mut [u16], at: usize)
-    requires { (n ≤ table_rows) × (table_cells ≤ length table.now) × (column < table_columns) × (at + chain_cells ≤ length links.old) }
-    ensures { links.new ≡ chain_in table.now column n at links.old }
+fn fill(list: Formulas, links: &mut Links, chain: Chain)
+    ensures { links.new ≡ chain_in list.entry.table.now (chain_column chain) list.entry.n (chain_start chain) links.old }
 {
-    clear_firsts(links, at, n);
-    let mut i = n;
-    while 0 < i {
-        i -= 1;
-        link_place(table, column, n, links, at, i);
+    clear_firsts(list, links, chain);
+    for i in (0..list.n).rev() {
+        link_place(list, links, chain, i);
     }
 }
 
 // Fills the chains of formulas with the same left part, the same right part and the same bottom.
-pub fn link(table: &[u16], n: usize, links: &mut [u16])
-    requires { (n ≤ table_rows) × (table_cells ≤ length table.now) × (link_cells ≤ length links.old) }
-    ensures { links.new ≡ linked_in table.now n links.old }
+pub fn link(list: Formulas, links: &mut Links)
+    ensures { links.new ≡ linked_in list.entry.table.now list.entry.n links.old }
 {
-    chain(table, LEFT, n, links, LEFTS);
-    chain(table, RIGHT, n, links, RIGHTS);
-    chain(table, BOTTOM, n, links, BOTTOMS);
-}
-
-// A place that stands in the links.
-pub fn linked_at(links: &[u16], i: usize) -> usize
-    requires { i < length links.now }
-    ensures { result ≡ get_or links.now i 0 }
-{
-    links[i] as usize
+    fill(list, links, Chain::Left);
+    fill(list, links, Chain::Right);
+    fill(list, links, Chain::Bottom);
 }

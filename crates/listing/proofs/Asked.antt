@@ -9,9 +9,7 @@ use lib.ListN.{length, drop}
 use lib.Dec.{ltb}
 use borrow.Author.Tests.{lt-ltb, le-ltb}
 use Rattle.infon.specs.Formula.{Formula, True, name, and, implies, quoted}
-use Rattle.infon.specs.declared.Verdict.{Verdict}
-use Rattle.infon.specs.declared.Verdict.TheVariants.{Passed, Refused}
-use Rattle.infon.specs.Codes.{when, and_then}
+use Rattle.infon.specs.Codes.{when, and_then, Verdict, passed, refused}
 use Rattle.infon.specs.Policy.{Entry, formula_in}
 use Rattle.infon.specs.Listing.{weakened, weakened_bases, enlist, list_of, most_listed, code5_from, code5}
 use Rattle.infon.proofs.Listed.{unskipped, list_from_enlist, enlist_append, enlist_begins, begins_shorter}
@@ -74,7 +72,7 @@ listed_all entries =
 
 -- Code 5 of the rows still to be gone through.
 unfoldable pub code5_of : List Formula → List Node → Verdict
-code5_of fs [] = Passed
+code5_of fs [] = passed
 code5_of fs (n ∷ row) =
     let now = enlist fs (weakened_bases n.pre n.what) in
     and_then (when (ltb most_listed (length now)) 5 n.line) (code5_of now row)
@@ -124,13 +122,13 @@ module _ (fs : List Formula) (i : ℕ) (n : Node) (row : List Node) where
 
   -- the node's own forms are too many already: so is the line's
   refused_at : (own xs : List Formula) → most_listed < length (enlist fs own)
-      → and_then (when (ltb most_listed (length (enlist fs (own ++ xs)))) 5 n.line) (code5_of (enlist fs (own ++ xs)) row) ≡ Refused 5 n.line
+      → and_then (when (ltb most_listed (length (enlist fs (own ++ xs)))) 5 n.line) (code5_of (enlist fs (own ++ xs)) row) ≡ refused 5 n.line
   unfolding and_then when
   refused_at own xs over =
       let e = ap length (enlist_append fs own xs) in
       rw (lt-ltb most_listed (length (enlist fs (own ++ xs))) (omega (arith, longer (enlist fs own) xs)))
 
-  code5_refused : (w : Formula) → length fs ≤ most_listed → most_listed < length (Own w) → After w ≡ Refused 5 n.line
+  code5_refused : (w : Formula) → length fs ≤ most_listed → most_listed < length (Own w) → After w ≡ refused 5 n.line
   unfolding weakened_bases is_base enlist
   code5_refused True few over = rw (← append-nil (weakened n.pre True)) (refused_at (weakened n.pre True) [] over)
   code5_refused (name a) few over = rw (← append-nil (weakened n.pre (name a))) (refused_at (weakened n.pre (name a)) [] over)
@@ -157,7 +155,7 @@ module _ (entries : List Entry) where
 
   pub code5_over : (i : ℕ) → i < count_nodes (roots entries) → length (listed_to (roots entries) i) ≤ most_listed
       → most_listed < length (listed_to (roots entries) (suc i))
-      → code5 entries ≡ code5_of (listed_to (roots entries) i) (after 0 i (roots entries)) → code5 entries ≡ Refused 5 (node_at (roots entries) i).line
+      → code5 entries ≡ code5_of (listed_to (roots entries) i) (after 0 i (roots entries)) → code5 entries ≡ refused 5 (node_at (roots entries) i).line
   unfolding listed_to own_forms code5_of
   code5_over i h few over so_far =
       let row = roots entries in
@@ -166,7 +164,7 @@ module _ (entries : List Entry) where
       ∙ code5_refused (listed_to row i) i (node_at row i) (drop 1 (after 0 i row)) (node_at row i).what few over
 
   pub code5_end : code5 entries ≡ code5_of (listed_to (roots entries) (count_nodes (roots entries))) (after 0 (count_nodes (roots entries)) (roots entries))
-      → code5 entries ≡ Passed
+      → code5 entries ≡ passed
   unfolding code5_of
   code5_end so_far =
       so_far

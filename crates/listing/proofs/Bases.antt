@@ -10,12 +10,12 @@ use lib.ListN.{length, get_or}
 use lib.Seq.{drop-cons}
 use lib.Dec.{ltb}
 use borrow.Author.Tests.{ltb-true, ltb-false}
+use Rattle.std.proofs.lemmas.Bool.{cases_Bool}
 use Rattle.infon.specs.Bytes.{some_of}
 use Rattle.infon.specs.Formula.{Formula, True}
 use Rattle.infon.specs.Policy.{Entry}
 use Rattle.infon.specs.Listing.{Prefix, wrap, weakened, is_listed, list_of}
 use Rattle.infon.specs.Rules.{prefix_under, core_of, numbered}
-use Rattle.infon.proofs.Rows.{decided}
 use Rattle.infon.proofs.Prefixes.{listed_mem, mem_listed, wrap_core}
 use Rattle.infon.proofs.Listed.{enlist_only}
 use Rattle.nodes.specs.Nodes.{Node, node_at, roots, count_nodes}
@@ -40,7 +40,7 @@ module _ (test : ℕ → Bool) where
       (λ (not-here : test j ≡ false).
       let apart : j ≡ a → ⊥ = λ e. true≢false (sym passes ∙ (ap test (sym e) ∙ not-here)) in
       rw not-here (first_found k (suc j) a (omega (arith, apart)) (omega arith) passes))
-      (decided (test j))
+      (cases_Bool (test j))
 
   first_is : (k n : ℕ) → n < k → test n ≡ true → ((a : ℕ) → a < n → test a ≡ false) → first_from test 0 k ≡ n
   first_is k n below passes before =
@@ -48,7 +48,7 @@ module _ (test : ℕ → Bool) where
       let found = first_found k 0 n (omega arith) (omega arith) passes in
       ⊎_elim (λ (less : ltb first n ≡ true). absurd (true≢false (sym found.0 ∙ before first (ltb-true first n less))))
       (λ (more : ltb first n ≡ false). omega (arith, found.1, ltb-false first n more))
-      (decided (ltb first n))
+      (cases_Bool (ltb first n))
 
 -- The weaker forms of a formula by number.
 weakened_number : (w : Prefix) (x : Formula) (l : ℕ) → l < weaker_count w → numbered (weakened w x) l ≡ wrap (choose w l) x
@@ -86,7 +86,7 @@ module _ (row : List Node) (a : ℕ) where
         ),
       ))
       (λ (none : is_base y ≡ false). absurd (false≢true (rw none at listed)))
-      (decided (is_base y))
+      (cases_Bool (is_base y))
 
 -- a form that no earlier node has is of its own node's base
 pub base_is : (row : List Node) (b l : ℕ) → Form row b l → (x : Formula) → x ≡ form_at row b l

@@ -10,10 +10,10 @@ use mathlib.Core.List.{List, []}
 use lib.ListN.{get_or}
 use lib.Dec.{ltb}
 use borrow.Author.Tests.{ltb-true, ltb-false}
+use Rattle.std.proofs.lemmas.Bool.{cases_Bool}
 use Rattle.infon.specs.Formula.{Formula, True, name, and, implies, quoted, nodes}
 use Rattle.infon.specs.Listing.{Prefix, wrap, is_listed}
 use Rattle.infon.specs.Rules.{shape_under, shape_of, prefix_under, core_of, numbered}
-use Rattle.infon.proofs.Rows.{decided}
 use Rattle.infon.proofs.Prefixes.{shape_wrap}
 use Rattle.nodes.specs.Nodes.{Node, node_at, count_nodes, kind_of, nodes_of, node_rows, node_kind, node_end, node_cell, NodesHeld}
 use Rattle.nodes.proofs.Order.{quoted_high}
@@ -85,7 +85,7 @@ module _ (file t : List ℕ) (held : NodesHeld file t) (fs : List Formula) (cand
       number_down k (suc j) (inwards q.told m) (omega arith) (inside_below row j m below q x what) (inside_weaker row j m below q x what less) in
       let same = inside_form row j m below q x what in
       rw (high, step) (further.0 ∙ ap (number_in fs) same, subst (λ (z : Formula). is_listed z fs ≡ true) same further.1))
-      (decided (ltb (node_cell t node_kind j) 4))
+      (cases_Bool (ltb (node_cell t node_kind j) 4))
 
   module _ (j m : ℕ) (below : j < count_nodes row) (less : m < weaker_count (node_at row j).pre) where
     pub number_form : form_number t cand j m ≡ number_in fs (form_at row j m)
@@ -122,12 +122,12 @@ module _ (file t : List ℕ) (held : NodesHeld file t) (fs : List Formula) (cand
     base_below =
         ⊎_elim (λ (low : ltb (kind_of x) 4 ≡ true). ltb-true (kind_of x) 4 low)
         (λ (high : ltb (kind_of x) 4 ≡ false). absurd (true≢false (sym o.form.base ∙ quoted_kind x (ltb-false (kind_of x) 4 high))))
-        (decided (ltb (kind_of x) 4))
+        (cases_Bool (ltb (kind_of x) 4))
 
-    abbrev form_here : IsForm t b l
-    form_here = (file, (held, (o.form.below, o.form.less)))
+    abbrev form_here : IsForm file b l
+    form_here = (o.form.below, o.form.less)
 
-    pub is_owner : IsOwner t owners i
+    pub is_owner : IsOwner file t owners i
     is_owner =
         rw (owner_node, owner_number, kind_here) (form_here, base_below)
 
@@ -159,7 +159,7 @@ module _ (file t : List ℕ) (held : NodesHeld file t) (fs : List Formula) (cand
     -- the parts
     module _ (two : 2 ≤ node_cell t node_kind b) where
       abbrev parts : Parts row b
-      parts = form_parts t b l form_here two (rw kind_here base_below)
+      parts = form_parts file t held b l form_here two (rw kind_here base_below)
 
       left_number_lem : form_number t cand (b + 1) l ≡ number_in fs (wrap w parts.left)
       left_number_lem =
@@ -169,7 +169,7 @@ module _ (file t : List ℕ) (held : NodesHeld file t) (fs : List Formula) (cand
 
       right_number_is : form_number t cand (node_cell t node_end (b + 1)) l ≡ number_in fs (wrap w parts.right)
       right_number_is =
-          ap (λ (n : ℕ). form_number t cand n l) (right_number_lem t b l form_here two (rw kind_here base_below))
+          ap (λ (n : ℕ). form_number t cand n l) (right_number_lem file t held b l form_here two (rw kind_here base_below))
           ∙ number_form (suc b + nodes parts.left) l (right_below row b o.form.below parts)
           (right_weaker row b o.form.below parts l o.form.less)
           ∙ ap (number_in fs) (right_form row b o.form.below parts l)
@@ -202,7 +202,7 @@ module _ (file t : List ℕ) (held : NodesHeld file t) (fs : List Formula) (cand
         (λ (two : ltb (node_cell t node_kind b) 2 ≡ false).
         let some = ltb-false (node_cell t node_kind b) 2 two in
         rw two (left_number_lem some ∙ left_shown some))
-        (decided (ltb (node_cell t node_kind b) 2)))
+        (cases_Bool (ltb (node_cell t node_kind b) 2)))
 
     pub right_column_lem : right_column t cand owners i ≡ right_number fs (shape_of (numbered fs i))
     unfolding right_column no_number
@@ -214,7 +214,7 @@ module _ (file t : List ℕ) (held : NodesHeld file t) (fs : List Formula) (cand
         (λ (two : ltb (node_cell t node_kind b) 2 ≡ false).
         let some = ltb-false (node_cell t node_kind b) 2 two in
         rw two (right_number_is some ∙ right_shown some))
-        (decided (ltb (node_cell t node_kind b) 2)))
+        (cases_Bool (ltb (node_cell t node_kind b) 2)))
 
     -- the form with put at every place
     last_form : form_at row b (weaker_count (node_at row b).pre - 1) ≡ bottom_of (numbered fs i)

@@ -10,10 +10,10 @@ use lib.ListN.{length, get_or, set, take, length-append, get_or-append}
 use lib.Seq.{get_or-set_same, get_or-set_other, get_or_at}
 use lib.Dec.{ltb, eqb}
 use borrow.Author.Tests.{lt-ltb, le-ltb, ltb-true, ltb-false}
+use Rattle.std.proofs.lemmas.Bool.{cases_Bool, false_from_ne_true}
 use Rattle.infon.specs.Formula.{Formula, True, same}
 use Rattle.infon.specs.Listing.{is_listed, enlist}
 use Rattle.infon.specs.Rules.{numbered}
-use Rattle.infon.proofs.Rows.{decided, not_true_false}
 use Rattle.formulas.specs.Table.{number_in}
 use Rattle.formulas.proofs.Numbers.{number_in_below}
 use Rattle.formulas.proofs.Growing.{number_in_unlisted, number_in_append, number_in_last, listed_append, listed_last}
@@ -90,7 +90,7 @@ module _ (row : List Node) (shallow : (i : ℕ) → i < count_nodes row → leng
     done_before b l (inr same) =
         ⊎_elim (λ (h : ltb l m ≡ true). inl (inr (same.0, ltb-true l m h)))
         (λ (h : ltb l m ≡ false). inr (same.0, omega (arith, same.1, ltb-false l m h)))
-        (decided (ltb l m))
+        (cases_Bool (ltb l m))
 
     placed_now : (more : List Formula) → is_listed x more ≡ true → at ≡ number_in more x
         → ((b l : ℕ) → Form row b l → (b < i) ⊎ ((b ≡ i) × (l < m)) → Placed row more (set cand place at) b l)
@@ -123,7 +123,7 @@ module _ (row : List Node) (shallow : (i : ℕ) → i < count_nodes row → leng
     -- a formula that is not listed yet is a form of no earlier node
     not_earlier : is_listed x fs ≡ false → (a : ℕ) → a < i → is_listed x (own_forms (node_at row a)) ≡ false
     not_earlier unlisted a less =
-        not_true_false (is_listed x (own_forms (node_at row a)))
+        false_from_ne_true (is_listed x (own_forms (node_at row a)))
         (λ h.
         let own = own_form row a x (omega (arith, form.below)) h in
         let listed = (so.placed a own.0 own.1.0 (inl less)).listed in
@@ -156,7 +156,7 @@ module _ (row : List Node) (shallow : (i : ℕ) → i < count_nodes row → leng
               (λ (more : ltb k n ≡ false).
               let e : k ≡ n = omega (arith, ltb-false k n more) in
               subst (Owned row (fs ++ (x ∷ [])) (set keys n key) (set owners n place)) (sym e) (owned_new unlisted))
-              (decided (ltb k n));
+              (cases_Bool (ltb k n));
           placed =
               placed_now (fs ++ (x ∷ [])) (listed_last fs x)
               (at_number ∙ number_in_unlisted fs x unlisted ∙ sym (number_in_last fs x unlisted))
@@ -175,4 +175,4 @@ module _ (row : List Node) (shallow : (i : ℕ) → i < count_nodes row → leng
     entered =
         ⊎_elim (λ (listed : is_listed x fs ≡ true). rw (listed, lt-ltb at n (old_below listed)) (enter_old listed))
         (λ (unlisted : is_listed x fs ≡ false). rw (unlisted, le-ltb at n (new_behind unlisted)) (enter_new unlisted))
-        (decided (is_listed x fs))
+        (cases_Bool (is_listed x fs))

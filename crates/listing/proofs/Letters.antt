@@ -4,7 +4,7 @@ use Prim.Native.Nat.{ℕ, ◌+◌, ◌≤◌, ◌<◌}
 use Prim.Native.Char.{code}
 use native.Mathlib.Omega.{arith}
 use mathlib.Core.Path.{◌≡◌, refl, sym, ◌∙◌, ap}
-use mathlib.Core.Option.{Option, none, some}
+use Rattle.std.specs.Prelude.{Option, None, Some}
 use mathlib.Core.List.{List, [], ◌∷◌, ◌++◌, flatten}
 use lib.ListN.{length, get_or, drop, length-append, length-drop}
 use lib.Seq.{drop-drop, drop-append_seam}
@@ -44,8 +44,8 @@ letter_stands file start text s e st =
 letter_here : (file : List ℕ) (start : ℕ) (text : List ℕ) (o : Option Sentence) (rest : List Entry) → sentence_of text ≡ o → Stands file start text
     → Letters file rest → Letters file (with_entry start o rest)
 unfolding with_entry
-letter_here file start text none rest read st later = later
-letter_here file start text (some s) rest read st later = (letter_stands file start text s (line_read text s read).0 st, later)
+letter_here file start text None rest read st later = later
+letter_here file start text (Some s) rest read st later = (letter_stands file start text s (line_read text s read).0 st, later)
 
 letters_from : (file : List ℕ) (start : ℕ) (lines : List (List ℕ)) → drop start file ≡ flatten lines → Letters file (entries_from (placed start lines))
 unfolding placed entries_from flatten

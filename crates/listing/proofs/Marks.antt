@@ -12,15 +12,15 @@ use lib.ListN.{length, get_or, set, drop, length-set, length-append, length-map,
 use lib.Seq.{get_or-set_same, get_or-set_other, set-get_or, drop-cons, set_at}
 use lib.Dec.{eqb}
 use borrow.Author.Tests.{eqb-true, eqb-false}
+use Rattle.std.proofs.lemmas.Bool.{cases_Bool}
 use Rattle.infon.specs.Bytes.{some_of}
 use Rattle.infon.specs.Formula.{Formula, same, nodes}
 use Rattle.infon.specs.Policy.{Sentence, hypothesis, query, Entry, entries_of, formula_in, hypotheses_of, queries_of}
 use Rattle.infon.specs.Listing.{is_listed, list_of, most_listed}
 use Rattle.infon.specs.Rules.{numbered}
 use Rattle.infon.specs.Run.{written}
-use Rattle.infon.proofs.Rows.{decided}
 use Rattle.infon.proofs.Listed.{numbered_injective}
-use Rattle.nodes.specs.Nodes.{node_at, count_nodes, nodes_of, node_rows, node_end, node_line, node_cell}
+use Rattle.nodes.specs.Nodes.{node_at, count_nodes, nodes_of, NodesHeld, node_rows, node_end, node_line, node_cell}
 use Rattle.nodes.proofs.Order.{nodes_positive}
 use Rattle.formulas.specs.Table.{number_in, flag, table_rows, table_cells, cell, with_cell}
 use Rattle.formulas.specs.Tests.{hypothesis_at}
@@ -33,40 +33,37 @@ use Rattle.listing.proofs.Cells.{number_form, form_listed}
 use Rattle.listing.proofs.Letters.{letter_byte, LinesAhead, all_ahead, NextLine, next_line, none_ahead, line_form, line_weaker}
 
 -- One line.
-module _ (file t : List ℕ) (count : ℕ) (cand : List ℕ) (ready : LinesReady file t count cand) (r : ℕ) (es : List Entry)
-    (ahead : LinesAhead file r es) (h : r < count) where
+module _ (file t : List ℕ) (held : NodesHeld file t) (cand : List ℕ) (ready : LinesReady file cand) (r : ℕ) (es : List Entry)
+    (ahead : LinesAhead file r es) (h : r < count_nodes (nodes_of file)) where
   abbrev fs : List Formula
   fs = list_of (entries_of file)
 
-  pub line_below : r < count_nodes (nodes_of file)
-  line_below = subst (λ (k : ℕ). r < k) ready.all h
-
   abbrev pub this : NextLine file r es
-  this = next_line file r es ahead line_below
+  this = next_line file r es ahead h
 
   abbrev x : Formula
   x = formula_in this.entry.sentence
 
-  pub line_is_form : IsForm t r 0
-  line_is_form = (file, (ready.held, (line_below, line_weaker file r es this)))
+  pub line_is_form : IsForm file r 0
+  line_is_form = (h, line_weaker file r es this)
 
   pub line_number : form_number t cand r 0 ≡ number_in fs x
   line_number =
-      number_form file t ready.held fs cand ready.placed r 0 line_below (line_weaker file r es this) ∙ ap (number_in fs) (line_form file r es this)
+      number_form file t held fs cand ready.placed r 0 h (line_weaker file r es this) ∙ ap (number_in fs) (line_form file r es this)
 
   pub line_listed : is_listed x fs ≡ true
   line_listed =
       subst (λ (z : Formula). is_listed z fs ≡ true) (line_form file r es this)
-      (form_listed file t ready.held fs cand ready.placed r 0 line_below (line_weaker file r es this))
+      (form_listed file t held fs cand ready.placed r 0 h (line_weaker file r es this))
 
   pub line_number_few : form_number t cand r 0 < length fs
   line_number_few = rw line_number (number_in_below fs x line_listed)
 
   pub line_row : r < node_rows
-  line_row = omega (arith, line_below, count_few file t ready.held)
+  line_row = omega (arith, h, count_few file t held)
 
   pub line_place : node_cell t node_line r ≡ this.entry.start
-  line_place = line_cell file t ready.held r line_below ∙ this.line
+  line_place = line_cell file t held r h ∙ this.line
 
   pub line_inside : node_cell t node_line r < length file
   line_inside = rw line_place this.inside
@@ -75,7 +72,7 @@ module _ (file t : List ℕ) (count : ℕ) (cand : List ℕ) (ready : LinesReady
   line_letter = ap (λ (k : ℕ). get_or file k 0) line_place ∙ this.letter
 
   pub line_end : node_cell t node_end r ≡ r + nodes (node_at (nodes_of file) r).what
-  line_end = end_cell file t ready.held r line_below
+  line_end = end_cell file t held r h
 
   pub line_further : r < node_cell t node_end r
   line_further = omega (arith, line_end, nodes_positive (node_at (nodes_of file) r).what)
@@ -145,13 +142,13 @@ marked_small letter old h = by (eqb letter (code "H"))
     by true = omega arith
     by false = h
 
-module _ (file t : List ℕ) (count : ℕ) (cand before table : List ℕ) (r : ℕ) (ready : LinesReady file t count cand) (long : table_cells ≤ length before)
-    (so : MarksTo file before table r) (h : r < count) where
+module _ (file t : List ℕ) (held : NodesHeld file t) (cand before table : List ℕ) (r : ℕ) (ready : LinesReady file cand) (long : table_cells ≤ length before)
+    (so : MarksTo file before table r) (h : r < count_nodes (nodes_of file)) where
   abbrev gs : List Formula
   gs = list_of (entries_of file)
 
   abbrev line : NextLine file r so.es
-  line = this file t count cand ready r so.es so.ahead h
+  line = this file t held cand ready r so.es so.ahead h
 
   abbrev z : Formula
   z = formula_in line.entry.sentence
@@ -160,7 +157,7 @@ module _ (file t : List ℕ) (count : ℕ) (cand before table : List ℕ) (r : �
   at = number_in gs z
 
   listed : is_listed z gs ≡ true
-  listed = line_listed file t count cand ready r so.es so.ahead h
+  listed = line_listed file t held cand ready r so.es so.ahead h
 
   at_few : at < length gs
   at_few = number_in_below gs z listed
@@ -174,13 +171,13 @@ module _ (file t : List ℕ) (count : ℕ) (cand before table : List ℕ) (r : �
 
   pub mark_number : form_number t cand r 0 < table_rows
   unfolding most_listed
-  mark_number = omega (arith, line_number_few file t count cand ready r so.es so.ahead h, ready.few)
+  mark_number = omega (arith, line_number_few file t held cand ready r so.es so.ahead h, ready.few)
 
   -- a mark is 0 or 1, so it fits a cell
   pub mark_fits : (number letter old new : ℕ) → number ≡ form_number t cand r 0 → old ≡ cell table hypothesis_at number → new ≡ marked_by letter old
       → new < 65536
   mark_fits number letter old new number_is old_is new_is =
-      let few : number < length gs = rw number_is (line_number_few file t count cand ready r so.es so.ahead h) in
+      let few : number < length gs = rw number_is (line_number_few file t held cand ready r so.es so.ahead h) in
       let small : old ≤ 1 = rw (old_is, so.cells number few) (flag_small (is_listed (numbered gs number) so.done)) in
       omega (arith, marked_small letter old small)
 
@@ -199,7 +196,7 @@ module _ (file t : List ℕ) (count : ℕ) (cand before table : List ℕ) (r : �
       let other : same (numbered gs k) z ≡ false = same_number gs once k z less listed ∙ there in
       get_or-set_other table (hypothesis_at * table_rows + at) (hypothesis_at * table_rows + k) 1 0 (λ e. eqb-false at k there (omega arith)) ∙ so.cells k less
       ∙ ap flag (sym (listed_more (numbered gs k) z so.done ∙ ap (λ (b : Bool). is_listed (numbered gs k) so.done || b) other ∙ or_none (is_listed (numbered gs k) so.done))))
-      (decided (eqb at k))
+      (cases_Bool (eqb at k))
     where
       or_none : (b : Bool) → b || false ≡ b
       or_none true = refl
@@ -217,7 +214,7 @@ module _ (file t : List ℕ) (count : ℕ) (cand before table : List ℕ) (r : �
           omega (arith, at_few, behind same)
 
   later : LinesAhead file (node_cell t node_end r) line.rest
-  later = lines_later file t count cand ready r so.es so.ahead h
+  later = lines_later file t held cand ready r so.es so.ahead h
 
   after_hypothesis : (y : Formula) → line.entry.sentence ≡ hypothesis y → MarksTo file before (with_cell table hypothesis_at at 1) (node_cell t node_end r)
   unfolding formula_in
@@ -263,9 +260,9 @@ module _ (file t : List ℕ) (count : ℕ) (cand before table : List ℕ) (r : �
       → old ≡ cell table hypothesis_at number → new ≡ marked_by (get_or file start 0) old → marked ≡ with_cell table hypothesis_at number new
       → end ≡ node_cell t node_end r → MarksTo file before marked end
   marks_on number start old new end marked number_is start_is old_is new_is marked_is end_is =
-      let e : number ≡ at = number_is ∙ line_number file t count cand ready r so.es so.ahead h in
+      let e : number ≡ at = number_is ∙ line_number file t held cand ready r so.es so.ahead h in
       let f : get_or file start 0 ≡ letter_byte line.entry.sentence =
-      ap (λ (k : ℕ). get_or file k 0) start_is ∙ line_letter file t count cand ready r so.es so.ahead h in
+      ap (λ (k : ℕ). get_or file k 0) start_is ∙ line_letter file t held cand ready r so.es so.ahead h in
       rw (marked_is, new_is, old_is, f, e, end_is) (by_sentence line.entry.sentence refl)
 
 pub marks_over : (file before table : List ℕ) (r : ℕ) → MarksTo file before table r → count_nodes (nodes_of file) ≤ r → HypothesesMarked file before table
@@ -328,28 +325,28 @@ asked_size file before queries q r so fits =
       so.count,
     )
 
-module _ (file t : List ℕ) (count : ℕ) (cand before queries : List ℕ) (q r : ℕ) (ready : LinesReady file t count cand) (long : node_rows ≤ length before)
-    (so : AskedTo file before queries q r) (h : r < count) where
+module _ (file t : List ℕ) (held : NodesHeld file t) (cand before queries : List ℕ) (q r : ℕ) (ready : LinesReady file cand) (long : node_rows ≤ length before)
+    (so : AskedTo file before queries q r) (h : r < count_nodes (nodes_of file)) where
   abbrev hs : List Formula
   hs = list_of (entries_of file)
 
   abbrev here : NextLine file r so.es
-  here = this file t count cand ready r so.es so.ahead h
+  here = this file t held cand ready r so.es so.ahead h
 
   abbrev y : Formula
   y = formula_in here.entry.sentence
 
   q_few : q < length before
-  q_few = omega (arith, so.few, line_row file t count cand ready r so.es so.ahead h)
+  q_few = omega (arith, so.few, line_row file t held cand ready r so.es so.ahead h)
 
   pub ask_room : q < length queries
   ask_room = rw (asked_size file before queries q r so (omega (arith, q_few))) q_few
 
   afterwards : LinesAhead file (node_cell t node_end r) here.rest
-  afterwards = lines_later file t count cand ready r so.es so.ahead h
+  afterwards = lines_later file t held cand ready r so.es so.ahead h
 
   further : r < node_cell t node_end r
-  further = line_further file t count cand ready r so.es so.ahead h
+  further = line_further file t held cand ready r so.es so.ahead h
 
   -- a line `Q`
   written_more : set queries q (number_in hs y) ≡ map (number_in hs) (so.done ++ (y ∷ [])) ++ drop (q + 1) before
@@ -404,9 +401,9 @@ module _ (file t : List ℕ) (count : ℕ) (cand before queries : List ℕ) (q r
       → next ≡ asked_by (get_or file start 0) q → queries' ≡ asked_in (get_or file start 0) number q queries → end ≡ node_cell t node_end r
       → AskedTo file before queries' next end
   asked_on number start next end queries' number_is start_is next_is queries_are end_is =
-      let e : number ≡ number_in hs y = number_is ∙ line_number file t count cand ready r so.es so.ahead h in
+      let e : number ≡ number_in hs y = number_is ∙ line_number file t held cand ready r so.es so.ahead h in
       let f : get_or file start 0 ≡ letter_byte here.entry.sentence =
-      ap (λ (k : ℕ). get_or file k 0) start_is ∙ line_letter file t count cand ready r so.es so.ahead h in
+      ap (λ (k : ℕ). get_or file k 0) start_is ∙ line_letter file t held cand ready r so.es so.ahead h in
       rw (next_is, queries_are, f, e, end_is) (by_letter here.entry.sentence refl)
 
 pub asked_over : (file before queries : List ℕ) (q r : ℕ) → AskedTo file before queries q r → count_nodes (nodes_of file) ≤ r

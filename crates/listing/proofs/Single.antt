@@ -10,15 +10,16 @@ use lib.ListN.{length, get_or}
 use lib.Seq.{ext_get_or}
 use lib.Dec.{ltb}
 use borrow.Author.Tests.{ltb-true, ltb-false}
-use Rattle.infon.specs.declared.Verdict.{Verdict}
-use Rattle.infon.specs.declared.Verdict.TheVariants.{Passed, Refused}
+use Rattle.std.proofs.lemmas.Bool.{cases_Bool}
+use Rattle.std.specs.Prelude.{Result, Err}
+use Rattle.infon.specs.declared.Refusal.{Refusal}
+use Rattle.infon.specs.Codes.{Verdict, passed}
 use Rattle.infon.specs.Policy.{Entry, entries_of}
 use Rattle.infon.specs.Listing.{list_of, code5}
-use Rattle.infon.proofs.Rows.{decided}
 use Rattle.formulas.specs.Table.{table_rows, table_columns, rule_columns, table_cells, cell}
 use Rattle.formulas.specs.Tests.{base_at}
 use Rattle.listing.specs.declared.Listed.{Listed}
-use Rattle.listing.specs.Outcome.{ListReady, TableFilled, TableAfter, ListedFile}
+use Rattle.listing.specs.Outcome.{TableFilled, TableAfter, ListedFile}
 
 -- every cell of the table is told
 module _ (es : List Entry) (before one two : List ℕ) (size : length before ≡ table_cells) (first : TableFilled es before one)
@@ -32,7 +33,7 @@ module _ (es : List Entry) (before one two : List ℕ) (size : length before ≡
       (λ (last : ltb k rule_columns ≡ false).
       let base : k ≡ base_at = omega (arith, ltb-false k rule_columns last) in
       rw base (first.bases i below ∙ sym (second.bases i below)))
-      (decided (ltb k rule_columns))
+      (cases_Bool (ltb k rule_columns))
 
   same_cell : (k i : ℕ) → k < table_columns → i < table_rows → cell one k i ≡ cell two k i
   same_cell k i column row =
@@ -41,7 +42,7 @@ module _ (es : List Entry) (before one two : List ℕ) (size : length before ≡
       (λ (behind : ltb i (length (list_of es)) ≡ false).
       let above = ltb-false i (length (list_of es)) behind in
       first.others k i row above ∙ sym (second.others k i row above))
-      (decided (ltb i (length (list_of es))))
+      (cases_Bool (ltb i (length (list_of es))))
 
   same_place : (j : ℕ) → j < length one → get_or one j 0 ≡ get_or two j 0
   same_place j h =
@@ -55,16 +56,15 @@ module _ (es : List Entry) (before one two : List ℕ) (size : length before ≡
 
 pub table_by : (v : Verdict) (es : List Entry) (before one two : List ℕ) → length before ≡ table_cells → TableAfter v es before one
     → TableAfter v es before two → one ≡ two
-table_by Passed es before one two size first second = one_table es before one two size first second
-table_by (Refused code place) es before one two size first second = first ∙ sym second
+table_by passed es before one two size first second = one_table es before one two size first second
+table_by (Err by) es before one two size first second = first ∙ sym second
 
-pub one_listing : (file t : List ℕ) (count : ℕ) (table queries : List ℕ) → ListReady file t count table queries
-    → (table' queries' table'' queries'' : List ℕ) (r s : Listed) → ListedFile file table queries table' queries' r
-    → ListedFile file table queries table'' queries'' s → (r ≡ s) × ((table' ≡ table'') × (queries' ≡ queries''))
-one_listing file t count table queries ready table' queries' table'' queries'' r s first second = (
+pub one_listing : (file table queries : List ℕ) → length table ≡ table_cells → (table' queries' table'' queries'' : List ℕ) (r s : Result Listed Refusal)
+    → ListedFile file table queries table' queries' r → ListedFile file table queries table'' queries'' s → (r ≡ s) × ((table' ≡ table'') × (queries' ≡ queries''))
+one_listing file table queries size table' queries' table'' queries'' r s first second = (
   first.answer ∙ sym second.answer,
   (
-    table_by (code5 (entries_of file)) (entries_of file) table table' table'' ready.table_size first.table_is second.table_is,
+    table_by (code5 (entries_of file)) (entries_of file) table table' table'' size first.table_is second.table_is,
     first.queries_are ∙ sym second.queries_are,
   ),
 )

@@ -69,15 +69,12 @@ pub record BaseOf (row : List Node) (p : Prefix) (twin base : ℕ) : Type 0 wher
   pub twin_is : twin ≡ twin_of row base
 
 -- what is asked where the forms of a base are listed: sizes only
-pub record FormsReady (p : Prefix) (twin base : ℕ) (cand keys owners : List ℕ) (count : ℕ) : Type 0 where
+pub record FormsReady (p : Prefix) (twin base count : ℕ) : Type 0 where
   pub sized : Sized p
   pub few_weaker : weaker_count_of (used p) ≤ stride
   pub twin_few : twin < node_rows
   pub base_few : base < node_rows
   pub count_few : count ≤ most_listed
-  pub cand_long : node_rows * stride ≤ length cand
-  pub keys_long : most_listed + stride ≤ length keys
-  pub owners_long : most_listed + stride ≤ length owners
 
 -- whatever the base is of, its forms are listed behind what was listed
 abbrev pub FormsEntered : Prefix → ℕ → ℕ → List ℕ → List ℕ → List ℕ → ℕ → List ℕ → List ℕ → List ℕ → ℕ → Type 0

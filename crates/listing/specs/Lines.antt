@@ -1,22 +1,18 @@
 -- What the lines of a file say of the list: which formulas are hypotheses, and which numbers the queries have.
-use Rattle.std.specs.Prelude.{ℕ, ◌+◌, ◌*◌, ◌≤◌, ◌<◌, ◌≡◌, cond, List, map, length, set, eqb}
+use Rattle.std.specs.Prelude.{ℕ, ◌+◌, ◌≤◌, ◌<◌, ◌≡◌, cond, List, map, length, set, eqb}
 use Prim.Native.Char.{code}
 use Rattle.formulas.specs.Tests.{hypothesis_at}
 use Rattle.formulas.specs.Table.{table_rows, table_cells, cell, number_in, flag}
-use Rattle.nodes.specs.Nodes.{node_rows, count_nodes, nodes_of, NodesHeld}
+use Rattle.nodes.specs.Nodes.{nodes_of}
 use Rattle.infon.specs.Policy.{entries_of, hypotheses_of, queries_of}
 use Rattle.infon.specs.Listing.{is_listed, list_of, most_listed}
 use Rattle.infon.specs.Rules.{numbered}
 use Rattle.infon.specs.Run.{written}
-use Rattle.columns.specs.Columns.{stride}
 use Rattle.listing.specs.Forms.{Form, Placed}
 
 -- what is known where the lines are gone through: the number of every form is at hand
-pub record LinesReady (file t : List ℕ) (count : ℕ) (cand : List ℕ) : Type 0 where
-  pub held : NodesHeld file t
-  pub all : count ≡ count_nodes (nodes_of file)
+pub record LinesReady (file cand : List ℕ) : Type 0 where
   pub few : length (list_of (entries_of file)) ≤ most_listed
-  pub cand_long : node_rows * stride ≤ length cand
   pub placed : (b l : ℕ) → Form (nodes_of file) b l → Placed (nodes_of file) (list_of (entries_of file)) cand b l
 
 -- a cell of the hypothesis column, and a query's number, after a line

@@ -1,31 +1,24 @@
 -- What the listing of a file leaves: its answer, the formula table, and the queries' numbers.
-use Rattle.std.specs.Prelude.{ℕ, ◌≤◌, ◌<◌, ◌≡◌, List, length}
-use Rattle.infon.specs.declared.Verdict.{Verdict}
-use Rattle.infon.specs.declared.Verdict.TheVariants.{Passed, Refused}
+use Rattle.std.specs.Prelude.{ℕ, ◌≤◌, ◌<◌, ◌≡◌, List, length, Result, Ok, Err}
+use Rattle.infon.specs.declared.Refusal.{Refusal}
+use Rattle.infon.specs.Codes.{Verdict, passed}
 use Rattle.infon.specs.Formula.{Formula}
 use Rattle.infon.specs.Policy.{Entry, entries_of, hypotheses_of, queries_of}
 use Rattle.infon.specs.Listing.{is_listed, list_of, code5}
 use Rattle.infon.specs.Rules.{numbered}
 use Rattle.infon.specs.Run.{written}
-use Rattle.nodes.specs.Nodes.{Node, node_at, node_rows, roots, count_nodes, nodes_of, NodesHeld}
-use Rattle.formulas.specs.Table.{table_rows, table_cells, cell, Tabled}
+use Rattle.nodes.specs.Nodes.{Node, node_at, roots, count_nodes}
+use Rattle.formulas.specs.Table.{table_rows, cell, Tabled}
 use Rattle.formulas.specs.Tests.{base_at}
 use Rattle.twins.specs.Twins.{first_from}
 use Rattle.listing.specs.declared.Listed.{Listed}
 use Rattle.listing.specs.Forms.{own_forms}
 use Rattle.listing.specs.Lines.{query_numbers}
 
--- what is asked: codes 1 to 4 do not apply, the node table holds the nodes, and the lent buffers have their sizes
-pub record ListReady (file t : List ℕ) (count : ℕ) (table queries : List ℕ) : Type 0 where
-  pub held : NodesHeld file t
-  pub all : count ≡ count_nodes (nodes_of file)
-  pub table_size : length table ≡ table_cells
-  pub queries_long : node_rows ≤ length queries
-
--- the answer by the verdict of code 5: L and the number of queries, none of either where it refuses
-unfoldable pub listed_by : Verdict → ℕ → ℕ → Listed
-listed_by Passed formulas queries = record { verdict = Passed; formulas = formulas; queries = queries }
-listed_by (Refused code place) formulas queries = record { verdict = Refused code place; formulas = 0; queries = 0 }
+-- the answer by the verdict of code 5: L and the number of queries, or the refusal
+unfoldable pub listed_by : Verdict → ℕ → ℕ → Result Listed Refusal
+listed_by passed formulas queries = Ok (record { formulas = formulas; queries = queries })
+listed_by (Err by) formulas queries = Err by
 
 -- the base of a formula, by the number of its node: the first that has the formula among its forms
 unfoldable pub base_in : List Node → Formula → ℕ
@@ -40,14 +33,14 @@ pub record TableFilled (es : List Entry) (before after : List ℕ) : Type 0 wher
 
 -- a refusal leaves both buffers as they were
 abbrev pub TableAfter : Verdict → List Entry → List ℕ → List ℕ → Type 0
-TableAfter Passed es before after = TableFilled es before after
-TableAfter (Refused code place) es before after = after ≡ before
+TableAfter passed es before after = TableFilled es before after
+TableAfter (Err by) es before after = after ≡ before
 
 unfoldable pub queries_after : Verdict → List ℕ → List ℕ → List ℕ
-queries_after Passed file before = written before 0 (query_numbers file)
-queries_after (Refused code place) file before = before
+queries_after passed file before = written before 0 (query_numbers file)
+queries_after (Err by) file before = before
 
-pub record ListedFile (file table queries table' queries' : List ℕ) (r : Listed) : Type 0 where
+pub record ListedFile (file table queries table' queries' : List ℕ) (r : Result Listed Refusal) : Type 0 where
   pub answer : r ≡ listed_by (code5 (entries_of file)) (length (list_of (entries_of file))) (length (queries_of (entries_of file)))
   pub table_is : TableAfter (code5 (entries_of file)) (entries_of file) table table'
   pub queries_are : queries' ≡ queries_after (code5 (entries_of file)) file queries

@@ -1,43 +1,43 @@
 // The list of formulas that matter, and the formula table: all bases in order, each weaker prefix in order, each formula found
-// among those listed or put behind them. Form m of node b, its formula under weaker prefix number m, stands at b * STRIDE + m: `cand`
-// has the number of every form of a base, `owners` the form as which a formula was first listed, `keys` that form's key.
+// among those listed or put behind them. Form m of node b, its formula under weaker prefix number m, stands at b * STRIDE + m.
 #![tactic(auto)]
 
-ghost use Rattle.std.specs.Prelude.{◌≡◌, cond, suc, ◌+◌, ◌≤◌, ◌<◌, length, take, ltb};
-ghost use Rattle.nodes.specs.Nodes.{node_rows, count_nodes, nodes_of, NodesHeld};
-ghost use Rattle.listing.specs.Forms.{listed_to, place_in, Entered, FormsReady, FormsEntered};
+ghost use Rattle.std.specs.Prelude.{◌≡◌, cond, suc, ◌+◌, ◌*◌, ◌≤◌, ◌<◌, length, position, ltb, nat_eq};
+ghost use Rattle.infon.specs.Listing.{most_listed};
+ghost use Rattle.nodes.specs.Nodes.{node_rows, nodes_of};
+ghost use Rattle.columns.specs.Columns.{stride};
+ghost use Rattle.listing.specs.Forms.{listed_to, Entered, FormsReady, FormsEntered};
 ghost use Rattle.listing.specs.Lines.{LinesReady, marked_by, asked_by, asked_in, Clear, HypothesesMarked, QueriesNumbered};
-ghost use Rattle.listing.specs.Outcome.{ListReady, ListedFile};
-ghost use Rattle.listing.specs.Whole.{Worked, NodeReady, NodesListed};
+ghost use Rattle.listing.specs.Outcome.{ListedFile};
+ghost use Rattle.listing.specs.Whole.{NodesListed};
 
-use columns::STRIDE;
-use formulas::HYPOTHESIS;
-use infon::Verdict;
-use nodes::{END, KIND, LINE, SAID, cell_at};
+use columns::{FORMS, Forms, ROOM, STRIDE, form_number, is_base};
+use formulas::{Column, Table};
+use infon::Refusal;
+use nodes::{Policy, cell_at, kind_at};
 use prefix::Prefix;
 
 // "L is over 4,096" is code 5.
 const MOST: usize = formulas::ROWS;
 
-// The forms of 1,024 nodes.
-const FORMS: usize = nodes::ROWS * STRIDE;
+// The tables that are worked in: `cand` has the number of every form of a base, `owners` the form as which a formula was first
+// listed, and `keys` that form's key. The keys stand apart from the owners, since the library searches a row
+// of keys by `position`, and a row of pairs would need a test by hand.
+#[derive(Drop)]
+struct Work {
+    cand: [u16; FORMS],
+    keys: [u16; ROOM],
+    owners: [u16; ROOM],
+    ghost cand_long: { node_rows * stride ≤ length cand },
+    ghost keys_long: { most_listed + stride ≤ length keys },
+    ghost owners_long: { most_listed + stride ≤ length owners },
+}
 
-// Room for a list that the last base takes over the limit.
-const ROOM: usize = MOST + STRIDE;
-
-// Where a formula with this key stands among the first n, n where it is new.
-fn find(keys: &[u16], n: usize, key: u16) -> usize
-    requires { n ≤ length keys.now }
-    ensures { result ≡ place_in key (take n keys.now) }
+// Where a formula with this key stands among those so far.
+fn find(keys: &[u16], key: u16) -> Option<usize>
+    ensures { result ≡ position (λ k. nat_eq key k) keys.now }
 {
-    let mut i = 0;
-    while i < n {
-        if keys[i] == key {
-            return i;
-        }
-        i += 1;
-    }
-    i
+    keys.iter().position(|&k| key == k)
 }
 
 // A formula that was found adds nothing to the list, a new one adds itself.
@@ -45,99 +45,56 @@ fn longer(n: usize, at: usize) -> usize
     requires { n < 65536 }
     ensures { result ≡ cond (ltb at n) n (n + 1) }
 {
-    if at < n {
-        return n;
-    }
-    n + 1
+    if at < n { n } else { n + 1 }
 }
 
 // Lists the forms of a base, said before put, behind the first `count` formulas; how many there are then.
-fn list_forms(
-    p: Prefix,
-    twin: usize,
-    base: usize,
-    cand: &mut [u16],
-    keys: &mut [u16],
-    owners: &mut [u16],
-    count: usize,
-) -> usize
-    requires { FormsReady p twin base cand.old keys.old owners.old count }
-    ensures { FormsEntered p twin base cand.old keys.old owners.old count cand.new keys.new owners.new result }
+fn list_forms(p: Prefix, twin: usize, base: usize, work: &mut Work, count: usize) -> usize
+    requires { FormsReady p twin base count }
+    ensures { FormsEntered p twin base work.old.cand work.old.keys work.old.owners count work.new.cand work.new.keys work.new.owners result }
 {
-    let all = prefix::weaker_count(p);
     let mut n = count;
-    let mut m = 0;
-    while m < all {
+    for m in 0..prefix::weaker_count(p) {
         let puts = prefix::puts(prefix::weaker(p, m));
         let key = (twin * STRIDE + puts) as u16;
-        let at = find(keys, n, key);
+        let at = find(&work.keys[..n], key).unwrap_or(n);
         let form = base * STRIDE + m;
-        cand[form] = at as u16;
-        keys[n] = key;
-        owners[n] = form as u16;
+        work.cand[form] = at as u16;
+        work.keys[n] = key;
+        work.owners[n] = form as u16;
         n = longer(n, at);
-        m += 1;
     }
     n
 }
 
 // Lists node i behind the first n formulas: a base its forms, a quotation nothing; how many there are then.
-fn list_node(
-    file: &[u8],
-    nodes: &[u16],
-    i: usize,
-    cand: &mut [u16],
-    keys: &mut [u16],
-    owners: &mut [u16],
-    n: usize,
-) -> usize
-    requires { NodeReady file.now nodes.now i cand.old keys.old owners.old n }
-    ensures { Entered (nodes_of file.now) (i + 1) 0 (listed_to (nodes_of file.now) (suc i)) cand.new keys.new owners.new result }
+fn list_node(policy: Policy, i: usize, work: &mut Work, n: usize) -> usize
+    requires below { i < policy.count }
+    requires few { n ≤ most_listed }
+    requires so_far { Entered (nodes_of policy.file.now) i 0 (listed_to (nodes_of policy.file.now) i) work.old.cand work.old.keys work.old.owners n }
+    ensures { Entered (nodes_of policy.entry.file.now) (i + 1) 0 (listed_to (nodes_of policy.entry.file.now) (suc i)) work.new.cand work.new.keys work.new.owners result }
 {
-    if SAID <= cell_at(nodes, KIND, i) {
+    if !is_base(kind_at(policy.nodes, i)) {
         return n;
     }
-    let twin = twins::first_twin(file, nodes, i);
-    let p = prefix::prefix_of(nodes, i);
-    list_forms(p, twin, i, cand, keys, owners, n)
+    let twin = twins::first_twin(policy, i);
+    let p = prefix::prefix_of(policy.nodes, i);
+    list_forms(p, twin, i, work, n)
 }
 
-// What code 5 says, and how many formulas are listed where it passes.
-#[derive(Clone, Copy)]
-struct Counted {
-    verdict: Verdict,
-    formulas: usize,
-}
-
-// Lists all nodes in order, up to the limit.
-fn list_nodes(
-    file: &[u8],
-    nodes: &[u16],
-    count: usize,
-    cand: &mut [u16],
-    keys: &mut [u16],
-    owners: &mut [u16],
-) -> Counted
-    requires { NodesHeld file.now nodes.now × ((count ≡ count_nodes (nodes_of file.now)) × Worked cand.old keys.old owners.old) }
-    ensures { NodesListed file.now result cand.new keys.new owners.new }
+// Lists all nodes in order, up to the limit; how many formulas there are where code 5 passes.
+fn list_nodes(policy: Policy, work: &mut Work) -> Result<usize, Refusal>
+    ensures { NodesListed policy.entry.file.now result work.new.cand work.new.keys work.new.owners }
 {
     let mut n = 0;
-    let mut i = 0;
-    while i < count {
-        n = list_node(file, nodes, i, cand, keys, owners, n);
+    for i in 0..policy.count {
+        n = list_node(policy, i, work, n);
         if MOST < n {
-            let place = cell_at(nodes, LINE, i);
-            return Counted {
-                verdict: Verdict::Refused { code: 5, place },
-                formulas: 0,
-            };
+            let place = cell_at(policy.nodes, nodes::Column::Line, i);
+            return Err(Refusal { code: 5, place });
         }
-        i += 1;
     }
-    Counted {
-        verdict: Verdict::Passed,
-        formulas: n,
-    }
+    Ok(n)
 }
 
 // A formula is marked by a line `H`, and otherwise as it was.
@@ -145,32 +102,34 @@ fn list_nodes(
 fn mark(letter: u8, old: usize) -> usize
     ensures { result ≡ marked_by letter old }
 {
-    if letter == b'H' {
-        return 1;
-    }
-    old
+    if letter == b'H' { 1 } else { old }
 }
 
-// Marks the formulas of the `H` lines in the table's column of hypotheses.
-fn fill_hypotheses(file: &[u8], nodes: &[u16], count: usize, cand: &[u16], table: &mut [u16])
-    requires { LinesReady file.now nodes.now count cand.now × Clear file.now table.old }
-    ensures { HypothesesMarked file.now table.old table.new }
+// Marks the formulas of the `H` lines in the table's column of hypotheses. (Not one loop with `fill_queries`, the body a closure:
+// each body's state, the table or the row with its count, is what its invariant speaks of.)
+fn fill_hypotheses(policy: Policy, cand: &[u16; FORMS], table: &mut [u16])
+    requires ready { LinesReady policy.file.now cand.now }
+    requires clear { Clear policy.file.now table.old }
+    ensures { HypothesesMarked policy.entry.file.now table.old table.new }
 {
     let mut r = 0;
-    while r < count {
-        let number = columns::form_number(nodes, cand, r, 0) as usize;
-        let line = cell_at(nodes, LINE, r);
-        let letter = file[line];
-        let old = formulas::cell_at(table, HYPOTHESIS, number);
-        formulas::set_cell(table, HYPOTHESIS, number, mark(letter, old));
-        r = cell_at(nodes, END, r);
+    while r < policy.count {
+        let number = usize::from(form_number(policy, cand, r, 0));
+        let line = cell_at(policy.nodes, nodes::Column::Line, r);
+        let letter = policy.file[line];
+        let old = formulas::cell_at(table, Column::Hypothesis, number);
+        formulas::set_cell(table, Column::Hypothesis, number, mark(letter, old));
+        r = cell_at(policy.nodes, nodes::Column::End, r);
     }
 }
 
-// A line `Q` puts its formula's number behind those of the earlier ones; how many there are then.
+// A line `Q` puts its formula's number behind those of the earlier ones; how many there are then. (The row is the caller's whole
+// buffer, which the contract of `accept` speaks of, so its count goes beside it.)
+#[tactic(auto, unfolding(crate::specs::Lines::asked_by, crate::specs::Lines::asked_in))]
 fn ask(letter: u8, number: u16, queries: &mut [u16], q: usize) -> usize
     requires { q < length queries.old }
-    ensures { (result ≡ asked_by letter q) × (queries.new ≡ asked_in letter number q queries.old) }
+    ensures count { result ≡ asked_by letter q }
+    ensures numbers { queries.new ≡ asked_in letter number q queries.old }
 {
     if letter == b'Q' {
         queries[q] = number;
@@ -180,66 +139,53 @@ fn ask(letter: u8, number: u16, queries: &mut [u16], q: usize) -> usize
 }
 
 // Writes the numbers of the queries in file order; how many there are.
-fn fill_queries(
-    file: &[u8],
-    nodes: &[u16],
-    count: usize,
-    cand: &[u16],
-    queries: &mut [u16],
-) -> usize
-    requires { LinesReady file.now nodes.now count cand.now × (node_rows ≤ length queries.old) }
-    ensures { QueriesNumbered file.now queries.old queries.new result }
+fn fill_queries(policy: Policy, cand: &[u16; FORMS], queries: &mut [u16]) -> usize
+    requires ready { LinesReady policy.file.now cand.now }
+    requires room { node_rows ≤ length queries.old }
+    ensures { QueriesNumbered policy.entry.file.now queries.old queries.new result }
 {
     let mut q = 0;
     let mut r = 0;
-    while r < count {
-        let number = columns::form_number(nodes, cand, r, 0);
-        let line = cell_at(nodes, LINE, r);
-        q = ask(file[line], number, queries, q);
-        r = cell_at(nodes, END, r);
+    while r < policy.count {
+        let number = form_number(policy, cand, r, 0);
+        let line = cell_at(policy.nodes, nodes::Column::Line, r);
+        q = ask(policy.file[line], number, queries, q);
+        r = cell_at(policy.nodes, nodes::Column::End, r);
     }
     q
 }
 
-// What code 5 says of a file, and where it passes L and the number of queries.
+// How many formulas and queries a file has that code 5 passes.
 #[derive(Clone, Copy)]
 pub struct Listed {
-    pub verdict: Verdict,
     pub formulas: usize,
     pub queries: usize,
 }
 
 // Lists a file's formulas, fills the formula table and numbers the queries. Where the list is too long, both buffers stay as they
 // were.
-pub fn list(
-    file: &[u8],
-    nodes: &[u16],
-    count: usize,
-    table: &mut [u16],
-    queries: &mut [u16],
-) -> Listed
-    requires { ListReady file.now nodes.now count table.old queries.old }
-    ensures { ListedFile file.now table.old queries.old table.new queries.new result }
+pub fn list(policy: Policy, table: &mut Table, queries: &mut [u16]) -> Result<Listed, Refusal>
+    requires { node_rows ≤ length queries.old }
+    ensures { ListedFile policy.entry.file.now table.old queries.old table.new queries.new result }
 {
-    let mut cand = [0u16; FORMS];
-    let mut keys = [0u16; ROOM];
-    let mut owners = [0u16; ROOM];
-    let counted = list_nodes(file, nodes, count, &mut cand, &mut keys, &mut owners);
-    let verdict = counted.verdict;
-    if let Verdict::Refused { code, place } = verdict {
-        return Listed {
-            verdict: Verdict::Refused { code, place },
-            formulas: 0,
-            queries: 0,
-        };
-    }
-    let n = counted.formulas;
-    columns::fill_columns(nodes, &cand, &keys, &owners, n, table);
-    fill_hypotheses(file, nodes, count, &cand, table);
-    let asked = fill_queries(file, nodes, count, &cand, queries);
-    Listed {
-        verdict: Verdict::Passed,
+    let mut work = Work {
+        cand: [0; FORMS],
+        keys: [0; ROOM],
+        owners: [0; ROOM],
+    };
+    let n = list_nodes(policy, &mut work)?;
+    let forms = Forms {
+        policy,
+        cand: &work.cand,
+        keys: &work.keys,
+        owners: &work.owners,
+        n,
+    };
+    columns::fill_columns(forms, table);
+    fill_hypotheses(policy, &work.cand, table);
+    let asked = fill_queries(policy, &work.cand, queries);
+    Ok(Listed {
         formulas: n,
         queries: asked,
-    }
+    })
 }

@@ -12,8 +12,8 @@ use lib.Dec.{eqb}
 use lib.Bits.{bit_or, bit_xor}
 use lib.Count.{count_trailing_zeros}
 use borrow.Author.Tests.{eqb-true, eqb-false}
-use Rattle.infon.proofs.Rows.{decided}
-use Rattle.members.specs.Members.{has_bit, is_in, with_number, without_member, LeastIn}
+use Rattle.std.proofs.lemmas.Bool.{cases_Bool}
+use Rattle.members.specs.Members.{has_bit, is_in, with_number, without_member, NoneBelow, LeastAt}
 use Rattle.members.proofs.Bitwise.{one_shifted, or_sets, or_keeps, xor_clears, xor_keeps, zero_has, trailing_lowest}
 
 module _ (cover : List ℕ) (i : ℕ) (low : i < 4096) (long : 64 ≤ length cover) where
@@ -41,7 +41,7 @@ module _ (cover : List ℕ) (i : ℕ) (low : i < 4096) (long : 64 ≤ length cov
       ∙ or_keeps (i % 64) (j % 64) word (ap (λ (k : ℕ). has_bit (get_or cover k 0) (j % 64)) (sym same) ∙ h))
       (λ (e : eqb (j / 64) (i / 64) ≡ false).
       ap (λ (w : ℕ). has_bit w (j % 64)) (other_word (bit_or word (2 ^ (i % 64))) j (eqb-false (j / 64) (i / 64) e)) ∙ h)
-      (decided (eqb (j / 64) (i / 64)))
+      (cases_Bool (eqb (j / 64) (i / 64)))
 
   pub without_clears : is_in cover i ≡ true → is_in (without_member cover i) i ≡ false
   unfolding is_in without_member
@@ -61,7 +61,7 @@ module _ (cover : List ℕ) (i : ℕ) (low : i < 4096) (long : 64 ≤ length cov
       ∙ ap (λ (k : ℕ). has_bit (get_or cover k 0) (j % 64)) (sym same)))
       (λ (e : eqb (j / 64) (i / 64) ≡ false).
       ap (λ (w : ℕ). has_bit w (j % 64)) (other_word (bit_xor word (2 ^ (i % 64))) j (eqb-false (j / 64) (i / 64) e)))
-      (decided (eqb (j / 64) (i / 64)))
+      (cases_Bool (eqb (j / 64) (i / 64)))
 
 -- what the code stores is the set with the number put in, and with the member taken out
 pub put_in : (cover : List ℕ) (i : ℕ)
@@ -75,40 +75,29 @@ unfolding without_member
 taken_out cover i = ap (λ (bit : ℕ). set cover (i / 64) (bit_xor (get_or cover (i / 64) 0) bit)) (one_shifted (i % 64) (omega arith))
 
 -- the words before a place have no member
-abbrev pub NoneBefore : List ℕ → ℕ → Type 0
-NoneBefore cover at = (i : ℕ) → i < at * 64 → is_in cover i ≡ false
-
-pub search_begins : (cover : List ℕ) → NoneBefore cover 0
-search_begins cover i low = absurd (omega arith)
-
-module _ (cover : List ℕ) (at : ℕ) (none : NoneBefore cover at) where
+module _ (cover : List ℕ) (at : ℕ) (none : NoneBelow cover (at * 64)) where
   in_word : (i : ℕ) → i / 64 ≡ at → is_in cover i ≡ has_bit (get_or cover at 0) (i % 64)
   unfolding is_in
   in_word i e = ap (λ (k : ℕ). has_bit (get_or cover k 0) (i % 64)) e
 
-  pub search_goes_on : get_or cover at 0 ≡ 0 → NoneBefore cover (at + 1)
+  pub search_goes_on : get_or cover at 0 ≡ 0 → NoneBelow cover ((at + 1) * 64)
   search_goes_on empty i low =
       ⊎_elim
       (λ (e : eqb (i / 64) at ≡ true).
       in_word i (eqb-true (i / 64) at e) ∙ (ap (λ (w : ℕ). has_bit w (i % 64)) empty ∙ zero_has (i % 64)))
       (λ (e : eqb (i / 64) at ≡ false). none i (let apart = eqb-false (i / 64) at e in omega (arith, apart)))
-      (decided (eqb (i / 64) at))
-
-  pub search_ends : at ≡ 64 → LeastIn cover 4096
-  search_ends e =
-      record { within = omega arith; member = λ h. absurd (omega arith); before = λ i low. none i (omega arith) }
+      (cases_Bool (eqb (i / 64) at))
 
   pub search_finds : at < 64 → (get_or cover at 0 ≡ 0 → ⊥) → get_or cover at 0 < 2 ^ 64
-      → LeastIn cover (at * 64 + count_trailing_zeros 64 (get_or cover at 0))
+      → LeastAt cover (at * 64 + count_trailing_zeros 64 (get_or cover at 0))
   search_finds inside some fits =
       let word = get_or cover at 0 in
       let z = count_trailing_zeros 64 word in
       let lowest = trailing_lowest 64 word some fits in
       let less : z < 64 = lowest.inside in
       record {
-        within = omega arith;
+        inside = omega arith;
         member =
-            λ h.
             in_word (at * 64 + z) (omega arith) ∙ (ap (has_bit word) (omega arith) ∙ lowest.set_there);
         before =
             λ i low.
@@ -117,5 +106,5 @@ module _ (cover : List ℕ) (at : ℕ) (none : NoneBefore cover at) where
             let same = eqb-true (i / 64) at e in
             in_word i same ∙ lowest.none_below (i % 64) (omega arith))
             (λ (e : eqb (i / 64) at ≡ false). none i (let apart = eqb-false (i / 64) at e in omega (arith, apart)))
-            (decided (eqb (i / 64) at));
+            (cases_Bool (eqb (i / 64) at));
       }

@@ -1,5 +1,5 @@
 -- A set of numbers as bits in words of 64: number i is bit i % 64 of word i / 64.
-use Rattle.std.specs.Prelude.{ℕ, zero, suc, ◌/◌, ◌%◌, ◌^◌, ◌≤◌, ◌<◌, ◌≡◌, Bool, true, false, List, get_or, set, eqb}
+use Rattle.std.specs.Prelude.{ℕ, zero, suc, ◌/◌, ◌%◌, ◌^◌, ◌<◌, ◌≡◌, Bool, true, false, List, get_or, set, eqb, Option, None, Some}
 use Rattle.std.specs.Int.Bits.{bit_or, bit_xor}
 use Rattle.formulas.specs.Table.{table_rows}
 
@@ -21,8 +21,17 @@ with_number cover i = set cover (i / 64) (bit_or (get_or cover (i / 64) 0) (2 ^ 
 unfoldable pub without_member : List ℕ → ℕ → List ℕ
 without_member cover i = set cover (i / 64) (bit_xor (get_or cover (i / 64) 0) (2 ^ (i % 64)))
 
--- The number is the least member; 4,096 says that there is none below it.
-pub record LeastIn (cover : List ℕ) (least : ℕ) : Type 0 where
-  pub within : least ≤ table_rows
-  pub member : least < table_rows → is_in cover least ≡ true
-  pub before : (i : ℕ) → i < least → is_in cover i ≡ false
+-- The numbers below a place are not in the set.
+abbrev pub NoneBelow : List ℕ → ℕ → Type 0
+NoneBelow cover place = (i : ℕ) → i < place → is_in cover i ≡ false
+
+-- The number is the least member.
+pub record LeastAt (cover : List ℕ) (least : ℕ) : Type 0 where
+  pub inside : least < table_rows
+  pub member : is_in cover least ≡ true
+  pub before : NoneBelow cover least
+
+-- The answer is the least member; none says that there is none.
+abbrev pub LeastIn : List ℕ → Option ℕ → Type 0
+LeastIn cover (Some least) = LeastAt cover least
+LeastIn cover None = NoneBelow cover table_rows

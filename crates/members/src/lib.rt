@@ -1,49 +1,39 @@
 // A set of numbers as bits in words of 64. Bit i % 64 of word i / 64 stands for number i.
 #![tactic(auto)]
 
-ghost use Rattle.std.specs.Prelude.{◌≡◌, true, ◌≤◌, ◌<◌, length};
+ghost use Rattle.std.specs.Prelude.{◌≡◌, true, ◌<◌};
 ghost use Rattle.formulas.specs.Table.{table_rows};
-ghost use Rattle.members.specs.Members.{cover_words, is_in, with_number, without_member, LeastIn};
+ghost use Rattle.members.specs.Members.{is_in, with_number, without_member, LeastIn};
 
-// The numbers of a set, and its words.
-const NUMBERS: usize = formulas::ROWS;
-
+// How many words a set has.
 pub const WORDS: usize = 64;
 
+pub type Cover = [u64; WORDS];
+
 // Puts a number into the set.
-pub fn insert(cover: &mut [u64], i: usize)
-    requires { (i < table_rows) × (cover_words ≤ length cover.old) }
+pub fn insert(cover: &mut Cover, i: usize)
+    requires { i < table_rows }
     ensures { cover.new ≡ with_number cover.old i }
 {
-    let at = i / 64;
-    let bit = 1u64 << (i % 64);
-    let word = cover[at];
-    cover[at] = word | bit;
+    cover[i / 64] |= 1 << (i % 64);
 }
 
 // Takes a member out of the set.
-pub fn remove(cover: &mut [u64], i: usize)
-    requires { (i < table_rows) × (cover_words ≤ length cover.old) × (is_in cover.old i ≡ true) }
+pub fn remove(cover: &mut Cover, i: usize)
+    requires { (i < table_rows) × (is_in cover.old i ≡ true) }
     ensures { cover.new ≡ without_member cover.old i }
 {
-    let at = i / 64;
-    let bit = 1u64 << (i % 64);
-    let word = cover[at];
-    cover[at] = word ^ bit;
+    cover[i / 64] ^= 1 << (i % 64);
 }
 
-// The least member, 4,096 where there is none.
-pub fn least(cover: &[u64]) -> usize
-    requires { cover_words ≤ length cover.now }
+// The least member.
+pub fn least(cover: &Cover) -> Option<usize>
     ensures { LeastIn cover.now result }
 {
-    let mut at = 0;
-    while at < WORDS {
-        let word = cover[at];
-        if word != 0 {
-            return at * 64 + u64::trailing_zeros(word) as usize;
+    for (at, word) in cover.iter().enumerate() {
+        if *word != 0 {
+            return Some(at * 64 + word.trailing_zeros() as usize);
         }
-        at += 1;
     }
-    NUMBERS
+    None
 }

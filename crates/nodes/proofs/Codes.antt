@@ -11,11 +11,9 @@ use lib.ListN.{length, get_or, drop}
 use lib.Dec.{ltb}
 use borrow.Author.Tests.{lt-ltb, le-ltb, ltb-true, ltb-false}
 use Rattle.infon.specs.Formula.{Formula, True, name, and, implies, quoted, nodes, depth}
-use Rattle.infon.specs.declared.Verdict.{Verdict}
-use Rattle.infon.specs.declared.Verdict.TheVariants.{Passed, Refused}
-use Rattle.infon.specs.Codes.{when, and_then}
+use Rattle.infon.specs.Codes.{when, and_then, Verdict, passed, refused}
 use Rattle.infon.specs.Policy.{Entry, formula_in, most_nodes, code3_from, code3, most_depth, code4}
-use Rattle.infon.proofs.Rows.{decided}
+use Rattle.std.proofs.lemmas.Bool.{cases_Bool}
 use Rattle.infon.proofs.Tried.{and_then_passed, when_passed}
 use Rattle.nodes.specs.Nodes.{Node, part, inner, kids_of, kids, after, nowhere, node_at, root, roots, count_nodes}
 use Rattle.nodes.proofs.Order.{after_add, after_all, count_append, node_first, node_step, kids_count}
@@ -51,7 +49,7 @@ Code3At count j entries =
     when (ltb most_nodes (count + count_nodes (roots entries))) 3 (get_or (after j (most_nodes - count) (roots entries)) 0 nowhere).line
 
 module _ (e : Entry) (rest : List Entry) (count j : ℕ) where
-  line_over : most_nodes < count + nodes (formula_in e.sentence) → count ≤ most_nodes → Code3At count j (e ∷ rest) ≡ Refused 3 e.start
+  line_over : most_nodes < count + nodes (formula_in e.sentence) → count ≤ most_nodes → Code3At count j (e ∷ rest) ≡ refused 3 e.start
   unfolding roots root count_nodes when
   line_over over few =
       rw (
@@ -82,7 +80,7 @@ code3_from_lem (e ∷ rest) count j few =
     (λ under.
     let fits = ltb-false most_nodes (count + size) under in
     rw under (code3_from_lem rest (count + size) (j + size) fits ∙ line_under e rest count j fits))
-    (decided (ltb most_nodes (count + size)))
+    (cases_Bool (ltb most_nodes (count + size)))
 
 pub code3_node : (entries : List Entry)
     → code3 entries ≡ when (ltb most_nodes (count_nodes (roots entries))) 3 (node_at (roots entries) most_nodes).line
@@ -91,14 +89,14 @@ code3_node entries =
     code3_from_lem entries 0 0 (omega arith)
     ∙ ap (λ n. when (ltb most_nodes n) 3 (node_at (roots entries) most_nodes).line) (zero-add (count_nodes (roots entries)))
 
-pub code3_few : (entries : List Entry) → code3 entries ≡ Passed → count_nodes (roots entries) ≤ most_nodes
+pub code3_few : (entries : List Entry) → code3 entries ≡ passed → count_nodes (roots entries) ≤ most_nodes
 code3_few entries h =
     ltb-false most_nodes (count_nodes (roots entries))
     (when_passed (ltb most_nodes (count_nodes (roots entries))) 3 (node_at (roots entries) most_nodes).line (sym (code3_node entries) ∙ h))
 
 -- Code 4 of the rows still to be gone through: a node's depth is what stands above it and what stands inside.
 unfoldable pub code4_of : List Node → Verdict
-code4_of [] = Passed
+code4_of [] = passed
 code4_of (n ∷ row) = and_then (when (ltb most_depth (length n.pre + depth n.what)) 4 n.line) (code4_of row)
 
 pub code4_roots : (entries : List Entry) → code4 entries ≡ code4_of (roots entries)
@@ -113,7 +111,7 @@ module _ (most code place : ℕ) (later : Verdict) where
   unfolding when and_then
   when_less low high h =
       ⊎_elim (λ over. rw (over, lt-ltb most high (omega (arith, ltb-true most low over)))) (λ under. rw under)
-      (decided (ltb most low))
+      (cases_Bool (ltb most low))
 
   when_max : (l a b : ℕ)
       → and_then (when (ltb most (l + max a b)) code place) later
@@ -125,8 +123,8 @@ module _ (most code place : ℕ) (later : Verdict) where
       ⊎_elim (λ over. rw (under, over, lt-ltb most (l + max a b) (omega (arith, ltb-true most (l + b) over))))
       (λ low.
       rw (under, low, le-ltb most (l + max a b) (omega (arith, ltb-false most (l + a) under, ltb-false most (l + b) low))))
-      (decided (ltb most (l + b))))
-      (decided (ltb most (l + a)))
+      (cases_Bool (ltb most (l + b))))
+      (cases_Bool (ltb most (l + a)))
 
 -- One node: it is too deep itself, or the code is that of its kids and of what stands behind.
 module _ (i : ℕ) (n : Node) (row : List Node) where
@@ -161,18 +159,18 @@ module _ (row : List Node) where
       ap code4_of (node_first row i h) ∙ code4_step i (node_at row i) (drop 1 (after 0 i row))
       ∙ ap (λ r. and_then (when (ltb most_depth (length (node_at row i).pre)) 4 (node_at row i).line) (code4_of r)) (sym (node_step row i h))
 
-  code4_parts : (i : ℕ) → i < count_nodes row → code4_of (after 0 i row) ≡ Passed
-      → (when (ltb most_depth (length (node_at row i).pre)) 4 (node_at row i).line ≡ Passed) × (code4_of (after 0 (suc i) row) ≡ Passed)
+  code4_parts : (i : ℕ) → i < count_nodes row → code4_of (after 0 i row) ≡ passed
+      → (when (ltb most_depth (length (node_at row i).pre)) 4 (node_at row i).line ≡ passed) × (code4_of (after 0 (suc i) row) ≡ passed)
   code4_parts i h e =
       and_then_passed (when (ltb most_depth (length (node_at row i).pre)) 4 (node_at row i).line) (code4_of (after 0 (suc i) row))
       (sym (code4_next i h) ∙ e)
 
-  code4_rest : code4_of row ≡ Passed → (i : ℕ) → i ≤ count_nodes row → code4_of (after 0 i row) ≡ Passed
+  code4_rest : code4_of row ≡ passed → (i : ℕ) → i ≤ count_nodes row → code4_of (after 0 i row) ≡ passed
   unfolding after
   code4_rest e zero h = e
   code4_rest e (suc i) h = (code4_parts i h (code4_rest e i (omega arith))).1
 
-  pub shallow_nodes : code4_of row ≡ Passed → (i : ℕ) → i < count_nodes row → length (node_at row i).pre ≤ most_depth
+  pub shallow_nodes : code4_of row ≡ passed → (i : ℕ) → i < count_nodes row → length (node_at row i).pre ≤ most_depth
   shallow_nodes e i h =
       ltb-false most_depth (length (node_at row i).pre)
       (when_passed (ltb most_depth (length (node_at row i).pre)) 4 (node_at row i).line (code4_parts i h (code4_rest e i (omega arith))).0)

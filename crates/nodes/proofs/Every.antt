@@ -10,7 +10,7 @@ use mathlib.Core.List.{List, [], ◌∷◌, ◌++◌, Memᴰ}
 use lib.ListN.{length, drop}
 use Rattle.infon.specs.Formula.{Quotation, Formula, True, name, and, implies, quoted, is_name, is_named}
 use Rattle.infon.specs.Policy.{Entry, entries_of, entries_from, lines_of, formula_in}
-use Rattle.infon.proofs.Rows.{and_true}
+use Rattle.std.proofs.lemmas.Bool.{and_parts}
 use Rattle.infon.proofs.Named.{entries_named}
 use Rattle.nodes.specs.Nodes.{Node, none_above, part, inner, kids_of, kids, after, node_at, root, roots, count_nodes, nodes_of}
 use Rattle.nodes.proofs.Order.{node_first, node_step}
@@ -60,9 +60,9 @@ kids_named : (i : ℕ) (n : Node) (x : Formula) → is_named x ≡ true → Each
 unfolding kids_of is_named part inner
 kids_named i n True h = tt
 kids_named i n (name a) h = tt
-kids_named i n (and x y) h = let both = and_true (is_named x) (is_named y) h in (both.0, (both.1, tt))
-kids_named i n (implies x y) h = let both = and_true (is_named x) (is_named y) h in (both.0, (both.1, tt))
-kids_named i n (quoted q x) h = let both = and_true (is_name q.principal) (is_named x) h in (both.1, tt)
+kids_named i n (and x y) h = let both = and_parts (is_named x) (is_named y) h in (both.0, (both.1, tt))
+kids_named i n (implies x y) h = let both = and_parts (is_named x) (is_named y) h in (both.0, (both.1, tt))
+kids_named i n (quoted q x) h = let both = and_parts (is_name q.principal) (is_named x) h in (both.1, tt)
 
 pub nodes_named : (row : List Node) → Each Named row → (i : ℕ) → i < count_nodes row → is_named (node_at row i).what ≡ true
 unfolding kids

@@ -7,16 +7,15 @@ use native.Mathlib.Omega.{arith}
 use mathlib.Core.Path.{◌≡◌, refl, sym, ◌∙◌, ap, subst, subst₂}
 use mathlib.Core.Logic.{◌⊎◌, inl, inr, ◌≢◌}
 use mathlib.Core.Bool.{true, not, false≢true}
-use mathlib.Core.Option.{Option, none, some}
-use mathlib.Core.List.{List, [], ◌∷◌, ◌++◌, append_assoc, append-nil, flatten, cons≢nil}
+use Rattle.std.specs.Prelude.{Option, None, Some, is_some}
+use mathlib.Core.List.{List, [], ◌∷◌, ◌++◌, append_assoc, append-nil, flatten, cons≢nil, append-eq-nil_iff}
 use lib.ListN.{length, get_or, take, drop, length-append, length-drop}
 use lib.Seq.{drop-drop, drop-append_seam, take-append_seam, get_or-drop}
 use borrow.Author.Tests.{not-false}
 use Rattle.infon.specs.Bytes.{bytes, space, line_feed}
 use Rattle.infon.specs.Formula.{Quotation, Formula, True, name, and, implies, quoted, letter_of, words, joined, spelling}
-use Rattle.infon.specs.declared.Verdict.TheVariants.{Passed}
-use Rattle.infon.specs.Codes.{when}
-use Rattle.infon.specs.Policy.{cut, Line, placed, lines_of, Sentence, hypothesis, query, sentence_of, is_some, is_well_formed, with_entry, entries_from, entries_of, formula_in, code2_from, code2}
+use Rattle.infon.specs.Codes.{when, passed}
+use Rattle.infon.specs.Policy.{cut, Line, placed, lines_of, Sentence, hypothesis, query, sentence_of, is_well_formed, with_entry, entries_from, entries_of, formula_in, code2_from, code2}
 use Rattle.infon.proofs.Readable.{words_nonempty, letter_length}
 use Rattle.infon.proofs.Lines.{cut_concat, opening, line_of, line_read}
 use Rattle.infon.proofs.Tried.{and_then_passed, when_passed}
@@ -63,10 +62,6 @@ unfolding joined
 joined_cons word [] nonempty = absurd (nonempty refl)
 joined_cons word (next ∷ rest) nonempty = refl
 
-append_nonempty : (front back : List (List ℕ)) → front ≢ [] → front ++ back ≢ []
-append_nonempty [] back nonempty = absurd (nonempty refl)
-append_nonempty (word ∷ front) back nonempty = cons≢nil
-
 joined_append : (front back : List (List ℕ)) → front ≢ [] → back ≢ [] → joined (front ++ back) ≡ joined front ++ (space ∷ joined back)
 unfolding joined
 joined_append [] back f b = absurd (f refl)
@@ -80,7 +75,7 @@ joined_append (word ∷ (next ∷ front)) back f b =
 two_spelled : (word : List ℕ) (x y : Formula) → joined (word ∷ (words x ++ words y)) ≡ word ++ (space ∷ (spelling x ++ (space ∷ spelling y)))
 unfolding spelling
 two_spelled word x y =
-    joined_cons word (words x ++ words y) (append_nonempty (words x) (words y) (words_nonempty x))
+    joined_cons word (words x ++ words y) (λ e. words_nonempty x (append-eq-nil_iff.0 e).0)
     ∙ ap (λ s. word ++ (space ∷ s)) (joined_append (words x) (words y) (words_nonempty x) (words_nonempty y))
 
 pub and_spelled : (x y : Formula) → spelling (and x y) ≡ bytes "+" ++ (space ∷ (spelling x ++ (space ∷ spelling y)))
@@ -232,12 +227,11 @@ goes_on_chained file at line own row (inl h) = (at + own + 1, (line, h.1))
 goes_on_chained file at line own row (inr h) = (at + own + 3, (at + own + 1, h.1))
 
 -- The lines of a file are a chain.
-is_some_lem : {A : Type 0} (o : Option A) → is_some o ≡ true → (x : A) × (o ≡ some x)
-unfolding is_some
-is_some_lem none h = absurd (false≢true h)
-is_some_lem (some x) h = (x, refl)
+is_some_lem : {A : Type 0} (o : Option A) → is_some o ≡ true → (x : A) × (o ≡ Some x)
+is_some_lem None h = absurd (false≢true h)
+is_some_lem (Some x) h = (x, refl)
 
-well_formed_line : (line : Line) → is_well_formed line ≡ true → (s : Sentence) × (sentence_of line.text ≡ some s)
+well_formed_line : (line : Line) → is_well_formed line ≡ true → (s : Sentence) × (sentence_of line.text ≡ Some s)
 unfolding is_well_formed
 well_formed_line line h = is_some_lem (sentence_of line.text) h
 
@@ -263,7 +257,7 @@ module _ (file : List ℕ) (start : ℕ) (text : List ℕ) (s : Sentence) (e : t
       )
 
 lines_chain : (file : List ℕ) (start : ℕ) (lines : List (List ℕ)) → start + length (flatten lines) ≡ length file → drop start file ≡ flatten lines
-    → code2_from (placed start lines) ≡ Passed → Chain file (start + 2) start (roots (entries_from (placed start lines)))
+    → code2_from (placed start lines) ≡ passed → Chain file (start + 2) start (roots (entries_from (placed start lines)))
 unfolding placed entries_from roots root code2_from flatten with_entry
 lines_chain file start [] whole rest h = omega arith
 lines_chain file start (text ∷ lines) whole rest h =
@@ -287,12 +281,12 @@ lines_chain file start (text ∷ lines) whole rest h =
       ),
     )
 
-pub file_chain : (file : List ℕ) → code2 file ≡ Passed → Chain file 2 0 (nodes_of file)
+pub file_chain : (file : List ℕ) → code2 file ≡ passed → Chain file 2 0 (nodes_of file)
 unfolding code2 lines_of nodes_of entries_of
 file_chain file h = lines_chain file 0 (cut file) (rw (cut_concat file) (zero-add (length file))) (sym (cut_concat file)) h
 
 -- The nodes of a well-formed file.
-module _ (file : List ℕ) (formed : code2 file ≡ Passed) where
+module _ (file : List ℕ) (formed : code2 file ≡ passed) where
   pub nodes_chained : (i : ℕ) → i ≤ count_nodes (nodes_of file) → Chained file (after 0 i (nodes_of file))
   nodes_chained =
       every_row (λ i. Chained file) (nodes_of file)

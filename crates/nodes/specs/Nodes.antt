@@ -1,7 +1,7 @@
 -- The nodes of a policy file, numbered in the order of their first bytes, and the table that holds them.
-use Rattle.std.specs.Prelude.{ℕ, zero, suc, ◌+◌, ◌*◌, ◌<◌, ◌≡◌, List, [], ◌∷◌, ◌++◌, length, get_or, set}
+use Rattle.std.specs.Prelude.{ℕ, zero, suc, ◌+◌, ◌*◌, ◌<◌, ◌≡◌, List, [], ◌∷◌, ◌++◌, length, get_or, set, map}
 use Rattle.infon.specs.Formula.{Told, said, put, Quotation, Formula, True, name, and, implies, quoted, spelling, nodes}
-use Rattle.infon.specs.declared.Verdict.TheVariants.{Passed}
+use Rattle.infon.specs.Codes.{passed}
 use Rattle.infon.specs.Policy.{Entry, entries_of, formula_in, code2, code3, code4}
 use Rattle.infon.specs.Listing.{Prefix}
 
@@ -53,8 +53,7 @@ unfoldable pub root : Entry → Node
 root e = record { place = e.start + 2; line = e.start; above = none_above; pre = []; what = formula_in e.sentence }
 
 unfoldable pub roots : List Entry → List Node
-roots [] = []
-roots (e ∷ rest) = root e ∷ roots rest
+roots entries = map root entries
 
 unfoldable pub count_nodes : List Node → ℕ
 count_nodes [] = 0
@@ -142,9 +141,8 @@ nodes_of file = roots (entries_of file)
 -- What is known where the node table of a file is at hand: codes 2 to 4 do not apply to the file (nor code 1, which nothing here
 -- leans on), and the table holds its nodes.
 pub record NodesHeld (file t : List ℕ) : Type 0 where
-  pub formed : code2 file ≡ Passed
-  pub few : code3 (entries_of file) ≡ Passed
-  pub shallow : code4 (entries_of file) ≡ Passed
+  pub formed : code2 file ≡ passed
+  pub few : code3 (entries_of file) ≡ passed
+  pub shallow : code4 (entries_of file) ≡ passed
   pub long : length t ≡ node_table
-  pub before : List ℕ
-  pub held : Noded (nodes_of file) before t
+  pub held : Noded (nodes_of file) t t

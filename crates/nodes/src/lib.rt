@@ -1,76 +1,84 @@
-// The node table of a policy file: what its columns mean stands in specs/, the laws of that in proofs/. Here are the numbers that
+// The node table of a policy file: what its columns mean stands in specs/, the laws of that in proofs/. Here are the names that
 // those who fill the table and those who read it share, and the two ways to a cell.
 #![tactic(auto)]
 
-ghost use Rattle.std.specs.Prelude.{◌≡◌, ◌<◌, length};
-ghost use Rattle.nodes.specs.Nodes.{node_rows, node_columns, node_table, node_cell, with_node_cell};
+ghost use Rattle.std.specs.Prelude.{◌≡◌, ◌<◌};
+ghost use Rattle.nodes.specs.Nodes.{node_rows, node_kind, node_cell, with_node_cell, count_nodes, nodes_of, NodesHeld};
+ghost use Rattle.nodes.specs.Columns.{column_number, kind_by};
 
 // How many rows each column has, and how many cells all columns have.
 pub const ROWS: usize = 1024;
 
 pub const CELLS: usize = 7168;
 
-// The columns, by number: a node's kind,
-pub const KIND: usize = 0;
+// One row of numbers and no row of structs: the definition `Noded` speaks of its cells.
+pub type Nodes = [u16; CELLS];
 
-// its first byte,
-pub const PLACE: usize = 1;
-
-// how many bytes are its own,
-pub const OWN: usize = 2;
-
-// the number behind its last node,
-pub const END: usize = 3;
-
-// the nearest quotation above it,
-pub const ABOVE: usize = 4;
-
-// the start of its line,
-pub const LINE: usize = 5;
-
-// and how many quotations are above it.
-pub const DEPTH: usize = 6;
-
-// The kinds: first the bases, the two operators last among them, and behind them the quotations.
-pub const TRUE: usize = 0;
-
-pub const NAME: usize = 1;
-
-pub const AND: usize = 2;
-
-pub const IMPLIES: usize = 3;
-
-pub const SAID: usize = 4;
-
-pub const PUT: usize = 5;
-
-// Stands for no quotation above.
-pub const NONE_ABOVE: usize = 0xFFFF;
-
-// A cell as the number that it is.
-pub fn wide(x: u16) -> usize
-    ensures { result ≡ x }
-{
-    x as usize
+// The columns: a node's kind, its first byte, how many bytes are its own, the number behind its last node, the nearest quotation
+// above it, the start of its line, and how many quotations are above it.
+#[derive(Clone, Copy, PartialEq, Eq)]
+pub enum Column {
+    Kind,
+    Place,
+    Own,
+    End,
+    Above,
+    Line,
+    Depth,
 }
 
+// The kinds: first the bases, the two operators last among them, and behind them the quotations.
+#[derive(Clone, Copy, PartialEq, Eq)]
+pub enum Kind {
+    True,
+    Name,
+    And,
+    Implies,
+    Said,
+    Put,
+}
+
+// Stands for no quotation above: a cell of the table, by its definition `none_above`.
+pub const NONE_ABOVE: usize = 0xFFFF;
+
 // A cell of the table.
-pub fn cell_at(nodes: &[u16], column: usize, i: usize) -> usize
-    requires inside { (column < node_columns) × (i < node_rows) }
-    requires whole { length nodes.now ≡ node_table }
-    ensures { result ≡ node_cell nodes.now column i }
+pub fn cell_at(nodes: &Nodes, column: Column, i: usize) -> usize
+    requires { i < node_rows }
+    ensures { result ≡ node_cell nodes.now (column_number column) i }
 {
-    let at = column * ROWS + i;
-    wide(nodes[at])
+    grid::cell_at::<ROWS>(nodes, column as usize, i)
 }
 
 // Writes one cell.
-pub fn set_cell(nodes: &mut [u16], column: usize, i: usize, value: usize)
-    requires inside { (column < node_columns) × (i < node_rows) }
+pub fn set_cell(nodes: &mut Nodes, column: Column, i: usize, value: usize)
+    requires inside { i < node_rows }
     requires fits { value < 65536 }
-    requires whole { length nodes.old ≡ node_table }
-    ensures { nodes.new ≡ with_node_cell nodes.old column i value }
+    ensures { nodes.new ≡ with_node_cell nodes.old (column_number column) i value }
 {
-    let at = column * ROWS + i;
-    nodes[at] = value as u16;
+    grid::set_cell::<ROWS>(nodes, column as usize, i, value)
+}
+
+// A node's kind.
+pub fn kind_at(nodes: &Nodes, i: usize) -> Kind
+    requires { i < node_rows }
+    ensures { result ≡ kind_by (node_cell nodes.now node_kind i) }
+{
+    match cell_at(nodes, Column::Kind, i) {
+        0 => Kind::True,
+        1 => Kind::Name,
+        2 => Kind::And,
+        3 => Kind::Implies,
+        4 => Kind::Said,
+        _ => Kind::Put,
+    }
+}
+
+// A policy file with the table of all its nodes.
+#[derive(Clone, Copy)]
+pub struct Policy<'a> {
+    pub file: &'a [u8],
+    pub nodes: &'a Nodes,
+    pub count: usize,
+    ghost held: { NodesHeld file.now nodes.now },
+    ghost all: { count ≡ count_nodes (nodes_of file.now) },
 }

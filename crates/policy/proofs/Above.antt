@@ -7,13 +7,13 @@ use native.Mathlib.Omega.{arith}
 use mathlib.Core.Path.{◌≡◌, refl, sym, ◌∙◌, ap, subst}
 use mathlib.Core.List.{List, [], ◌∷◌, ◌++◌}
 use lib.ListN.{length, drop}
-use borrow.Author.Tests.{lt-ltb, le-ltb}
 use Rattle.infon.specs.Formula.{Quotation, Formula, True, name, and, implies, quoted, spelling, nodes}
 use Rattle.infon.specs.Policy.{entries_of}
 use Rattle.nodes.specs.Nodes.{Node, none_above, part, inner, kids_of, kids, after, node_at, roots, count_nodes, kind_of, nodes_of, node_value, node_table, node_cell, with_node_cell}
 use Rattle.nodes.proofs.Order.{nodes_positive, count_after, node_first, node_step, node_within, and_left, implies_left, quoted_high}
 use Rattle.nodes.proofs.Every.{Each, Outermost, roots_outermost, node_shallow}
-use Rattle.policy.specs.Filling.{above_put, ended_cell, RowsAre, Holding, Passes, handed_down, EndReads}
+use Rattle.policy.specs.Filling.{above_put, ended_cell, RowsAre, Holding, Passes, parts_put, down_by, handed_down, EndReads}
+use Rattle.policy.proofs.Numbered.{of_leaf, of_parts, of_quoted}
 use Rattle.policy.proofs.Cells.{put_same, put_size, put_row, put_column_lem}
 use Rattle.policy.proofs.Ends.{node_reads}
 
@@ -45,26 +45,16 @@ module _ (t : List ℕ) (long : length t ≡ node_table) (i above depth : ℕ) (
   unfolding above_put
   above_column k j there four six = put_column_lem first 6 i depth k j here there six ∙ put_column_lem t 4 i above k j here there four
 
--- What the code's tests say.
+-- What a node's kind says, by its number.
 module _ (t : List ℕ) (i : ℕ) where
-  pub down_leaf : node_cell t 0 i < 2 → t ≡ handed_down t i
-  unfolding handed_down
-  down_leaf h = rw (lt-ltb (node_cell t 0 i) 2 h)
+  down_leaf : node_cell t 0 i < 2 → t ≡ handed_down t i
+  down_leaf h = of_leaf (λ k. t ≡ down_by k t i) (node_cell t 0 i) h refl refl
 
-  pub down_quoted : 2 ≤ node_cell t 0 i → 3 < node_cell t 0 i → above_put t (i + 1) i (node_cell t 6 i + 1) ≡ handed_down t i
-  unfolding handed_down
-  down_quoted h k = rw (le-ltb (node_cell t 0 i) 2 h, lt-ltb 3 (node_cell t 0 i) k)
+  down_quoted : 3 < node_cell t 0 i → above_put t (i + 1) i (node_cell t 6 i + 1) ≡ handed_down t i
+  down_quoted h = of_quoted (λ k. above_put t (i + 1) i (node_cell t 6 i + 1) ≡ down_by k t i) (node_cell t 0 i) h refl refl
 
-  pub down_parts : 2 ≤ node_cell t 0 i → node_cell t 0 i ≤ 3
-      → above_put (above_put t (i + 1) (node_cell t 4 i) (node_cell t 6 i)) (node_cell t 3 (i + 1)) (node_cell t 4 i) (node_cell t 6 i) ≡ handed_down t i
-  unfolding handed_down
-  down_parts h k = rw (le-ltb (node_cell t 0 i) 2 h, le-ltb 3 (node_cell t 0 i) k)
-
-  -- the two stores of an operator
-  pub down_stored : (u v : List ℕ) (above depth right : ℕ) → u ≡ above_put t (i + 1) above depth → v ≡ above_put u right above depth
-      → above ≡ node_cell t 4 i → depth ≡ node_cell t 6 i → right ≡ node_cell t 3 (i + 1) → 2 ≤ node_cell t 0 i → node_cell t 0 i ≤ 3 → v ≡ handed_down t i
-  down_stored u v above depth right first second a d r low high =
-      second ∙ rw (first, a, d, r) (down_parts low high)
+  down_parts : 2 ≤ node_cell t 0 i → node_cell t 0 i ≤ 3 → parts_put t i ≡ handed_down t i
+  down_parts h k = of_parts (λ k. parts_put t i ≡ down_by k t i) (node_cell t 0 i) h k refl refl
 
 -- Only rows behind i and before n change, and of them only what stands above.
 pub record Down (t after : List ℕ) (i n : ℕ) : Type 0 where
@@ -244,7 +234,7 @@ module _ (row : List Node) (i n : ℕ) (before t : List ℕ) (s : Handed row i n
       let within = size_told (quoted q x) e in
       let some_nodes = nodes_positive x in
       let big = quoted_high q x in
-      let same = down_quoted t i (omega (arith, here_kind, ap kind_of e)) (omega (arith, here_kind, ap kind_of e)) in (
+      let same = down_quoted t i (omega (arith, here_kind, ap kind_of e)) in (
         subst (λ u. Down t u i n) same (down_put t i n (i + 1) i (node_cell t 6 i + 1) long (omega arith) (omega arith) few),
         subst (λ u. Waiting u (suc i) (inner i (node_at row i) q x ∷ drop 1 (after 0 i row))) same
             (quoted_down t long i (node_at row i) (drop 1 (after 0 i row)) here_fits here_kind here_waits q x (ap nodes e)),
@@ -360,10 +350,10 @@ module _ (start : List ℕ) (count : ℕ) (h : Holding ended_cell start count) (
         node_shallow (entries_of h.file) i (omega (arith, h.counted)),
       )
 
-  pub forth_turn : (after : List ℕ) → after ≡ handed_down t i → length after ≡ length t → AboveTo start count after (i + 1)
+  pub forth_turn : (after : List ℕ) → after ≡ handed_down t i → length after ≡ node_table → AboveTo start count after (i + 1)
   forth_turn after same size =
       record {
-        long = size ∙ s.long;
+        long = size;
         below = omega arith;
         passes = λ file before all held.
             subst (Handed (nodes_of file) (i + 1) count before) (sym same)

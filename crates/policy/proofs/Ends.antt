@@ -13,22 +13,32 @@ use borrow.Author.Tests.{lt-ltb, le-ltb}
 use Rattle.infon.specs.Formula.{Formula, True, name, and, implies, quoted, nodes}
 use Rattle.nodes.specs.Nodes.{Node, part, inner, node_at, count_nodes, kind_of, nodes_of, node_table, node_cell, with_node_cell}
 use Rattle.nodes.proofs.Order.{nodes_positive, node_within, and_left, and_right, implies_left, implies_right, quoted_inner, quoted_high}
-use Rattle.policy.specs.Filling.{first_cell, ended_cell, RowsAre, Holding, Passes, end_from, EndReads}
+use Rattle.policy.specs.Filling.{first_cell, ended_cell, RowsAre, Holding, Passes, end_by, end_from, ReadsBy, EndReads}
+use Rattle.policy.proofs.Numbered.{of_leaf, of_parts, of_quoted}
 use Rattle.policy.proofs.Cells.{put_same, put_size, put_row, put_column_lem}
 
--- What the code's tests say.
+-- What a node's kind says, by its number.
 module _ (t : List ℕ) (i : ℕ) where
-  pub end_leaf : node_cell t 0 i < 2 → i + 1 ≡ end_from t i
-  unfolding end_from
-  end_leaf h = rw (lt-ltb (node_cell t 0 i) 2 h)
+  abbrev kind_here : ℕ
+  kind_here = node_cell t 0 i
 
-  pub end_quoted : 2 ≤ node_cell t 0 i → 3 < node_cell t 0 i → node_cell t 3 (i + 1) ≡ end_from t i
-  unfolding end_from
-  end_quoted h k = rw (le-ltb (node_cell t 0 i) 2 h, lt-ltb 3 (node_cell t 0 i) k)
+  end_leaf : kind_here < 2 → end_from t i ≡ i + 1
+  end_leaf h = of_leaf (λ k. end_by k t i ≡ i + 1) kind_here h refl refl
 
-  pub end_parts : 2 ≤ node_cell t 0 i → node_cell t 0 i ≤ 3 → node_cell t 3 (node_cell t 3 (i + 1)) ≡ end_from t i
-  unfolding end_from
-  end_parts h k = rw (le-ltb (node_cell t 0 i) 2 h, le-ltb 3 (node_cell t 0 i) k)
+  end_quoted : 3 < kind_here → end_from t i ≡ node_cell t 3 (i + 1)
+  end_quoted h = of_quoted (λ k. end_by k t i ≡ node_cell t 3 (i + 1)) kind_here h refl refl
+
+  end_parts : 2 ≤ kind_here → kind_here ≤ 3 → end_from t i ≡ node_cell t 3 (node_cell t 3 (i + 1))
+  end_parts h k = of_parts (λ k. end_by k t i ≡ node_cell t 3 (node_cell t 3 (i + 1))) kind_here h k refl refl
+
+  reads_leaf : kind_here < 2 → EndReads t i
+  reads_leaf h = of_leaf (λ k. ReadsBy k t i) kind_here h tt tt
+
+  reads_quoted : 3 < kind_here → i + 1 < 1024 → EndReads t i
+  reads_quoted h within = of_quoted (λ k. ReadsBy k t i) kind_here h within within
+
+  reads_parts : 2 ≤ kind_here → kind_here ≤ 3 → i + 1 < 1024 → node_cell t 3 (i + 1) < 1024 → EndReads t i
+  reads_parts h k left right = of_parts (λ k. ReadsBy k t i) kind_here h k (left, right) (left, right)
 
 -- A node of a row whose kind is in the table, with the ends of all nodes behind it.
 module _ (row : List Node) (t : List ℕ) (i : ℕ) (here : i < count_nodes row) (few : count_nodes row ≤ 1024)
@@ -55,24 +65,17 @@ module _ (row : List Node) (t : List ℕ) (i : ℕ) (here : i < count_nodes row)
         regroup : suc i + nodes x + nodes y ≡ i + suc (nodes x + nodes y)
         regroup = omega arith
 
-    parts_reads : EndReads t i
-    parts_reads =
-        record {
-          first = λ h. omega (arith, nodes_positive x, nodes_positive y);
-          second = λ h k. omega (arith, parts_first, nodes_positive y);
-        }
+    parts_reads : 2 ≤ node_cell t 0 i → node_cell t 0 i ≤ 3 → EndReads t i
+    parts_reads h k = reads_parts t i h k (omega (arith, nodes_positive x, nodes_positive y)) (omega (arith, parts_first, nodes_positive y))
 
     parts_told : 2 ≤ node_cell t 0 i → node_cell t 0 i ≤ 3 → end_from t i ≡ i + suc (nodes x + nodes y)
-    parts_told h k = sym (end_parts t i h k) ∙ parts_end
+    parts_told h k = end_parts t i h k ∙ parts_end
 
   abbrev Known : Formula → Type 0
   Known x = (end_from t i ≡ i + nodes x) × EndReads t i
 
   leaf_known : kind_of (node_at row i).what < 2 → (end_from t i ≡ i + 1) × EndReads t i
-  leaf_known low = (
-    sym (end_leaf t i (omega arith)),
-    record { first = λ h. absurd (omega arith); second = λ h k. absurd (omega arith) },
-  )
+  leaf_known low = (end_leaf t i (omega arith), reads_leaf t i (omega arith))
 
   known : (x : Formula) → (node_at row i).what ≡ x → Known x
   unfolding nodes kind_of part inner
@@ -82,21 +85,21 @@ module _ (row : List Node) (t : List ℕ) (i : ℕ) (here : i < count_nodes row)
       let within = size_told (and x y) e in
       let two = ap kind_of e in (
         parts_told x y _ _ (and_left row i here x y e) refl (and_right row i here x y e) refl within (omega arith) (omega arith),
-        parts_reads x y _ _ (and_left row i here x y e) refl (and_right row i here x y e) refl within,
+        parts_reads x y _ _ (and_left row i here x y e) refl (and_right row i here x y e) refl within (omega arith) (omega arith),
       )
   known (implies x y) e =
       let within = size_told (implies x y) e in
       let three = ap kind_of e in (
         parts_told x y _ _ (implies_left row i here x y e) refl (implies_right row i here x y e) refl within (omega arith) (omega arith),
-        parts_reads x y _ _ (implies_left row i here x y e) refl (implies_right row i here x y e) refl within,
+        parts_reads x y _ _ (implies_left row i here x y e) refl (implies_right row i here x y e) refl within (omega arith) (omega arith),
       )
   known (quoted q x) e =
       let within = size_told (quoted q x) e in
       let big = quoted_high q x in
       let is = kind ∙ ap kind_of e in
       let inside : suc i < count_nodes row = omega (arith, nodes_positive x) in (
-        sym (end_quoted t i (omega arith) (omega arith)) ∙ first_end x _ (quoted_inner row i here q x e) refl inside ∙ omega arith,
-        record { first = λ h. omega arith; second = λ h k. absurd (omega arith) },
+        end_quoted t i (omega arith) ∙ first_end x _ (quoted_inner row i here q x e) refl inside ∙ omega arith,
+        reads_quoted t i (omega arith) (omega arith),
       )
 
   pub node_end_lem : end_from t i ≡ i + nodes (node_at row i).what

@@ -7,8 +7,7 @@ use mathlib.Core.Path.{◌≡◌, sym, ◌∙◌, ap}
 use mathlib.Core.List.{List}
 use lib.ListN.{length}
 use borrow.Author.Tests.{lt-ltb, le-ltb}
-use Rattle.infon.specs.declared.Verdict.TheVariants.{Passed, Refused}
-use Rattle.infon.specs.Codes.{when, and_then}
+use Rattle.infon.specs.Codes.{when, and_then, passed, refused}
 use Rattle.infon.specs.Policy.{entries_of, most_nodes, code3, most_depth, code4}
 use Rattle.nodes.specs.Nodes.{after, node_at, count_nodes, node_value, Noded, nodes_of, node_table, node_cell}
 use Rattle.nodes.proofs.Order.{after_none}
@@ -16,7 +15,7 @@ use Rattle.nodes.proofs.Codes.{code3_few, code4_of, code4_roots, code4_next}
 use Rattle.policy.specs.Filling.{first_cell, ended_cell, RowsAre, Begun, Holding, Passes, NodesFilled}
 use Rattle.policy.specs.Tables.{NodesTabled, IsCode4}
 
-module _ (file : List ℕ) (count : ℕ) (before t : List ℕ) (begun : Begun file count before t) (counted : code3 (entries_of file) ≡ Passed)
+module _ (file : List ℕ) (count : ℕ) (before t : List ℕ) (begun : Begun file count before t) (counted : code3 (entries_of file) ≡ passed)
     (long : length before ≡ node_table) where
   pub begun_holding : Holding first_cell t count
   unfolding most_nodes nodes_of
@@ -59,7 +58,7 @@ module _ (file : List ℕ) (count : ℕ) (before t : List ℕ) (begun : Begun fi
         }
 
 -- the filled table is one that code 4 can be read off
-pub filled_tabled : (file : List ℕ) (count : ℕ) (before t : List ℕ) → NodesFilled file count before t → code3 (entries_of file) ≡ Passed
+pub filled_tabled : (file : List ℕ) (count : ℕ) (before t : List ℕ) → NodesFilled file count before t → code3 (entries_of file) ≡ passed
     → length before ≡ node_table → NodesTabled t count
 unfolding most_nodes nodes_of
 filled_tabled file count before t filled counted long =
@@ -82,7 +81,7 @@ module _ (t : List ℕ) (file before : List ℕ) (noded : Noded (nodes_of file) 
   unfolding node_value
   line_cell = noded.cells 5 i (omega arith) here
 
-  pub deep_node : 4 < node_cell t 6 i → code4_of (after 0 i (nodes_of file)) ≡ Refused 4 (node_cell t 5 i)
+  pub deep_node : 4 < node_cell t 6 i → code4_of (after 0 i (nodes_of file)) ≡ refused 4 (node_cell t 5 i)
   unfolding most_depth when and_then
   deep_node h =
       code4_next (nodes_of file) i here
@@ -108,12 +107,12 @@ module _ (t : List ℕ) (count : ℕ) where
     pub deep_turn : i < count → node_cell t 6 i ≤ 4 → DeepFrom t count (i + 1)
     deep_turn here shallow = λ file before all noded. s file before all noded ∙ shallow_node t file before noded i (omega arith) shallow
 
-    pub deep_stop : i < count → 4 < node_cell t 6 i → (place : ℕ) → place ≡ node_cell t 5 i → IsCode4 t count (Refused 4 place)
+    pub deep_stop : i < count → 4 < node_cell t 6 i → (place : ℕ) → place ≡ node_cell t 5 i → IsCode4 t count (refused 4 place)
     deep_stop here h place e =
         λ file before all noded.
-        ap (Refused 4) e ∙ sym (s file before all noded ∙ deep_node t file before noded i (omega arith) h)
+        ap (refused 4) e ∙ sym (s file before all noded ∙ deep_node t file before noded i (omega arith) h)
 
-    pub deep_over : count ≤ i → IsCode4 t count Passed
+    pub deep_over : count ≤ i → IsCode4 t count passed
     unfolding code4_of
     deep_over over =
         λ file before all noded.

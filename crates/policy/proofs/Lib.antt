@@ -1,4 +1,5 @@
 pub mod Verdicts
+pub mod Numbered
 pub mod Cells
 pub mod Stages
 pub mod Ends

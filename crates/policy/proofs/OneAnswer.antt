@@ -7,7 +7,7 @@ use mathlib.Core.Path.{◌≡◌, sym, ◌∙◌, ap, subst}
 use mathlib.Core.List.{List}
 use lib.ListN.{length, get_or}
 use lib.Seq.{ext_get_or}
-use Rattle.infon.specs.declared.Verdict.{Verdict}
+use Rattle.infon.specs.Codes.{Verdict}
 use Rattle.nodes.specs.Nodes.{Node, node_rows, node_columns, node_table, node_cell, node_value, count_nodes, nodes_of, Noded}
 use Rattle.policy.specs.Filling.{first_cell, ended_cell, RowsAre, Begun, Holding, Passes, NodesFilled}
 use Rattle.policy.specs.Tables.{NodesTabled, IsCode4}

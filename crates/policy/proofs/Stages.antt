@@ -2,59 +2,27 @@
 -- Assumes nothing.
 use Prim.Native.Nat.{ℕ, ◌+◌, ◌-◌, ◌≤◌, ◌<◌}
 use native.Mathlib.Omega.{arith}
-use mathlib.Core.Path.{◌≡◌, refl, sym, ◌∙◌, ap, subst}
-use mathlib.Core.Bool.{Bool, true, false, cond}
+use mathlib.Core.Path.{◌≡◌, sym, ◌∙◌, ap, subst}
+use mathlib.Core.Bool.{true, false, cond}
 use mathlib.Core.List.{List}
 use lib.ListN.{length, get_or}
 use lib.Dec.{eqb}
 use Rattle.infon.specs.Bytes.{space}
-use Rattle.infon.specs.Formula.{Told, said, put, Formula, True, name, and, implies, quoted}
-use Rattle.infon.specs.declared.Verdict.TheVariants.{Passed}
+use Rattle.infon.specs.Codes.{passed}
 use Rattle.infon.specs.Policy.{entries_of, code2, code3, most_nodes}
 use Rattle.nodes.specs.Nodes.{after, node_at, count_nodes, kind_of, own_bytes, nodes_of, node_table}
 use Rattle.nodes.proofs.Spelled.{Chain}
 use Rattle.nodes.proofs.Codes.{code3_few}
 use Rattle.spelling.specs.declared.Parsed.{Parsed}
-use Rattle.spelling.specs.declared.Parsed.TheVariants.{True as aTrue, Name as aName, And as anAnd, Implies as anImplies, Quoted as aQuoted, Bad}
-use Rattle.spelling.specs.Parsing.{parsed_at}
+use Rattle.spelling.specs.Parsing.{parsed_at, behind_own, kind_parsed}
+use Rattle.nodes.specs.declared.Kind.{Kind}
+use Rattle.nodes.specs.Columns.{number_of}
+use Rattle.std.specs.Prelude.{Option, None, Some}
 use Rattle.walk.specs.declared.Spot.{Spot}
-use Rattle.walk.specs.Walking.{behind_own, next_spot}
-use Rattle.policy.specs.Filling.{kind_number, spotted, first_cell, RowsAre, Begun}
-use Rattle.walk.proofs.Spots.{is_said, parsed_of, walk_begin, walk_over, walk_here, walk_place, walk_line, walk_parsed, walk_end, walk_forward, walk_within, walk_on, walk_later}
+use Rattle.walk.specs.Walking.{next_spot}
+use Rattle.policy.specs.Filling.{spotted, first_cell, RowsAre, Begun}
+use Rattle.walk.proofs.Spots.{walk_begin, walk_over, walk_inside, walk_here, walk_place, walk_line, walk_kind, walk_end, walk_forward, walk_within, walk_on}
 use Rattle.policy.proofs.Cells.{none_held, spotted_held, spotted_size}
-
--- Kinds.
-pub kind_small : (node : Parsed) → kind_number node < 6
-unfolding kind_number
-kind_small aTrue = omega arith
-kind_small (aName end) = omega arith
-kind_small anAnd = omega arith
-kind_small anImplies = omega arith
-kind_small (aQuoted true start end) = omega arith
-kind_small (aQuoted false start end) = omega arith
-kind_small Bad = omega arith
-
-pub said_kind : (s : Bool) (start end : ℕ) → s ≡ true → kind_number (aQuoted s start end) ≡ 4
-unfolding kind_number
-said_kind s start end e = rw e
-
-pub put_kind : (s : Bool) (start end : ℕ) → s ≡ false → kind_number (aQuoted s start end) ≡ 5
-unfolding kind_number
-put_kind s start end e = rw e
-
-kind_quoted : (told : Told) (principal : List ℕ) (x : Formula) (start end : ℕ)
-    → kind_number (aQuoted (is_said told) start end) ≡ kind_of (quoted (record { told = told; principal = principal }) x)
-unfolding kind_number kind_of
-kind_quoted said principal x start end = refl
-kind_quoted put principal x start end = refl
-
-kind_parsed : (at : ℕ) (x : Formula) → kind_number (parsed_of at x) ≡ kind_of x
-unfolding kind_number kind_of
-kind_parsed at True = refl
-kind_parsed at (name a) = refl
-kind_parsed at (and x y) = refl
-kind_parsed at (implies x y) = refl
-kind_parsed at (quoted q x) = kind_quoted q.told q.principal x (at + 1 + 1) (at + 1 + 1 + length q.principal)
 
 spot_ahead : (file : List ℕ) (end line : ℕ) → line < end → (next_spot file end line).line < (next_spot file end line).at
 unfolding next_spot
@@ -72,7 +40,7 @@ pub record SpotsTo (file before t : List ℕ) (at line i : ℕ) : Type 0 where
   pub long : length t ≡ node_table
   pub held : RowsAre (nodes_of file) first_cell i before t
 
-pub spots_begin : (file t : List ℕ) → code2 file ≡ Passed → code3 (entries_of file) ≡ Passed → length t ≡ node_table → SpotsTo file t t 2 0 0
+pub spots_begin : (file t : List ℕ) → code2 file ≡ passed → code3 (entries_of file) ≡ passed → length t ≡ node_table → SpotsTo file t t 2 0 0
 unfolding most_nodes nodes_of
 spots_begin file t formed counted long =
     record {
@@ -85,42 +53,40 @@ spots_begin file t formed counted long =
     }
 
 module _ (file before t : List ℕ) (at line i : ℕ) (s : SpotsTo file before t at line i) where
-  pub spots_over : length file ≤ at → Begun file i before t
-  spots_over over = record { counted = walk_over file at line i s.few s.chain over; held = s.held }
+  pub spots_over : (o : Option Parsed) → o ≡ parsed_at file at → o ≡ None → Begun file i before t
+  spots_over o e none = record { counted = walk_over file at line i s.few s.chain o e none; held = s.held }
 
-  module _ (inside : at < length file) where
-    pub spots_here : i < 1024
-    spots_here = omega (arith, walk_here file at line i s.few s.chain inside, s.most)
+  pub spots_full : 1024 ≤ i → Begun file 1024 before t
+  spots_full full =
+      let all : i ≡ 1024 = omega (arith, s.few, s.most) in
+      record { counted = omega (arith, s.few, s.most); held = subst (λ n. RowsAre (nodes_of file) first_cell n before t) all s.held }
 
-    module _ (node : Parsed) (e : node ≡ parsed_at file at) (end : ℕ) (f : end ≡ behind_own at node) where
-      end_parsed : end ≡ behind_own at (parsed_at file at)
-      end_parsed = f ∙ ap (behind_own at) e
+  module _ (o : Option Parsed) (p : Parsed) (e : o ≡ parsed_at file at) (is : o ≡ Some p) where
+    pub spots_inside : at < length file
+    spots_inside = walk_inside file at line i s.few s.chain o p e is
 
+    module _ (end : ℕ) (f : end ≡ behind_own at p) where
       pub spots_end : (at < end) × (end < length file)
       spots_end = (
-        omega (arith, end_parsed, walk_end file at line i s.few s.chain inside, walk_forward file at line i s.few s.chain inside),
-        walk_within file at line i s.few s.chain inside end end_parsed,
+        omega (arith, f, walk_end file at line i s.few s.chain o p e is, walk_forward file at line i s.few s.chain o p e is),
+        walk_within file at line i s.few s.chain o p e is end f,
       )
 
-      pub spots_later : (next : Spot) → next ≡ next_spot file end line → at < next.at
-      spots_later next g = walk_later file at line i s.few s.chain inside end end_parsed next g
-
-      pub spots_turn : (kind : ℕ) → kind ≡ kind_number node → (after : List ℕ) → after ≡ spotted t i kind at (end - at) line
+      pub spots_turn : (kind : Kind) → kind ≡ kind_parsed p → i < 1024 → (after : List ℕ) → after ≡ spotted t i (number_of kind) at (end - at) line
           → (next : Spot) → next ≡ next_spot file end line → SpotsTo file before after next.at next.line (i + 1)
-      spots_turn kind k after stored next g =
-          let here = walk_here file at line i s.few s.chain inside in
+      spots_turn kind k here after stored next g =
           let x = (node_at (nodes_of file) i).what in
-          let kinds : kind ≡ kind_of x = k ∙ ap kind_number (e ∙ walk_parsed file at line i s.few s.chain inside) ∙ kind_parsed at x in
-          let owns : end - at ≡ own_bytes x = omega (arith, end_parsed, walk_end file at line i s.few s.chain inside) in
+          let kinds : number_of kind ≡ kind_of x = ap number_of k ∙ walk_kind file at line i s.few s.chain o p e is in
+          let owns : end - at ≡ own_bytes x = omega (arith, f, walk_end file at line i s.few s.chain o p e is) in
           record {
-            few = omega arith;
+            few = omega (arith, walk_here file at line i s.few s.chain o p e is);
             most = s.most;
-            chain = walk_on file at line i s.few s.chain inside end end_parsed next g;
+            chain = walk_on file at line i s.few s.chain o p e is end f next g;
             ahead =
-                subst (λ (p : Spot). p.line < p.at) (sym g) (spot_ahead file end line (omega (arith, s.ahead, spots_end.0)));
-            long = ap length stored ∙ spotted_size t s.long i spots_here kind at (end - at) line;
+                subst (λ (q : Spot). q.line < q.at) (sym g) (spot_ahead file end line (omega (arith, s.ahead, spots_end.0)));
+            long = ap length stored ∙ spotted_size t s.long i here (number_of kind) at (end - at) line;
             held =
                 subst (RowsAre (nodes_of file) first_cell (i + 1) before) (sym stored)
-                (spotted_held (nodes_of file) before t i s.held s.long spots_here kind at (end - at) line kinds
-                (sym (walk_place file at line i s.few s.chain inside)) owns (sym (walk_line file at line i s.few s.chain inside)));
+                (spotted_held (nodes_of file) before t i s.held s.long here (number_of kind) at (end - at) line kinds
+                (sym (walk_place file at line i s.few s.chain o p e is)) owns (sym (walk_line file at line i s.few s.chain o p e is)));
           }

@@ -2,7 +2,7 @@
 use Rattle.std.specs.Prelude.{ℕ, ◌≤◌, ◌≡◌, List, length}
 use Rattle.infon.specs.Policy.{entries_of, code4}
 use Rattle.nodes.specs.Nodes.{count_nodes, nodes_of, Noded, node_table, node_rows}
-use Rattle.infon.specs.declared.Verdict.{Verdict}
+use Rattle.infon.specs.Codes.{Verdict}
 
 -- the table holds the nodes of some file
 pub record NodesTabled (t : List ℕ) (count : ℕ) : Type 0 where

@@ -1,6 +1,6 @@
 -- The loops over the places of a prefix, a turn each.
 -- Assumes nothing.
-use Prim.Native.Nat.{ℕ, suc, ◌+◌, ◌*◌, ◌-◌, ◌^◌, ◌≤◌, ◌<◌}
+use Prim.Native.Nat.{ℕ, zero, suc, ◌+◌, ◌*◌, ◌-◌, ◌^◌, ◌≤◌, ◌<◌}
 use native.Mathlib.Nat.{pow-suc, le_trans}
 use native.Mathlib.Numerals.{add-one}
 use native.Mathlib.Omega.{arith}
@@ -11,10 +11,24 @@ use lib.ListN.{length, get_or, take, drop, set, replicate, length-set, length-ta
 use lib.Dec.{eqb}
 use lib.Pow.{pow_mono}
 use lib.Seq.{get_or-drop, drop-cons, take-suc-set, drop-set-lt, drop-drop, get_or-take, length-take-le}
+use borrow.Author.Tests.{ne_eqb}
+use denote.Enum.Bare.{sameb}
+use Rattle.nodes.specs.contracts.Kind.{the_type}
+use Rattle.nodes.specs.declared.Kind.TheVariants.{Said}
+use Rattle.nodes.specs.Columns.{kind_by}
 use Rattle.nodes.specs.Nodes.{node_kind, node_above, node_depth, node_cell}
 use Rattle.prefix.specs.declared.Place.{Place}
 use Rattle.prefix.specs.declared.Prefix.{Prefix}
 use Rattle.prefix.specs.Places.{blank, place_at, up_from, prefix_at, Climbs, Readable, branches, weaker_count_of, lowered, later_bits, chosen, put_weight, puts_of}
+
+-- the kind that a cell says is said where the cell says 4
+pub said_kind : (n : ℕ) → sameb the_type (kind_by n) Said ≡ eqb n 4
+said_kind zero = refl
+said_kind (suc zero) = refl
+said_kind (suc (suc zero)) = refl
+said_kind (suc (suc (suc zero))) = refl
+said_kind (suc (suc (suc (suc zero)))) = refl
+said_kind (suc (suc (suc (suc (suc n))))) = sym (ne_eqb (suc (suc (suc (suc (suc n))))) 4 (λ e. omega arith))
 
 -- Up from a node: so many places are read, and what is still to be read is known.
 pub record Climbed (t : List ℕ) (count : ℕ) (whole places : List Place) (above k : ℕ) : Type 0 where
@@ -40,11 +54,6 @@ module _ (t : List ℕ) (i : ℕ) (readable : Readable t i) where
       })
 
 module _ (t : List ℕ) (count : ℕ) (whole places : List Place) (above k : ℕ) (so : Climbed t count whole places above k) where
-  pub climb_row : k < count → above < 1024
-  climb_row h =
-      let e : count - k ≡ suc (count - (k + 1)) = omega arith in
-      (subst (λ (n : ℕ). Climbs t n above) e so.ahead).0
-
   climb_places : k < count → count ≤ 4 → take (suc k) (set places k (place_at t above)) ≡ take k places ++ (place_at t above ∷ [])
   climb_places h few = take-suc-set places k (place_at t above) (omega (arith, so.full))
 
@@ -74,8 +83,8 @@ module _ (t : List ℕ) (count : ℕ) (whole places : List Place) (above k : ℕ
         blanks = climb_blanks h few;
       }
 
-  pub climb_turn : {kind next : ℕ} → k < count → count ≤ 4 → kind ≡ node_cell t node_kind above → next ≡ node_cell t node_above above
-      → Climbed t count whole (set places k (record { said = eqb kind 4; node = above })) next (k + 1)
+  pub climb_turn : {is_said : Bool} {next : ℕ} → k < count → count ≤ 4 → is_said ≡ eqb (node_cell t node_kind above) 4
+      → next ≡ node_cell t node_above above → Climbed t count whole (set places k (record { said = is_said; node = above })) next (k + 1)
   unfolding place_at
   climb_turn h few is up = rw (is, up) (climb_on h few)
 
@@ -98,9 +107,6 @@ pub same_prefix : (t : List ℕ) (i : ℕ) {places : List Place} (count : ℕ) �
     → record { places = places; count = count } ≡ prefix_at t i
 unfolding prefix_at
 same_prefix t i count e depth = λ j. record { places = e j; count = depth j }
-
-pub none_dropped : (k : ℕ) (ps : List Place) → k ≤ 0 → drop k ps ≡ ps
-none_dropped k ps h = let e : k ≡ 0 = omega arith in ap (λ (n : ℕ). drop n ps) e
 
 -- From the outermost place inwards: one place more.
 module _ (places : List Place) (count k : ℕ) (d : Place) (fits : count ≤ length places) (within : k ≤ count) (more : 0 < k) where

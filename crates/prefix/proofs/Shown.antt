@@ -199,7 +199,6 @@ module _ (file t : List ℕ) (held : NodesHeld file t) where
     pub readable : Readable t i
     readable =
         record {
-          long = table_long file t held;
           row = omega (arith, count_few file t held);
           few = rw (depth_cell file t held i h) (pre_few file t held i h);
           climbs =

@@ -1,6 +1,6 @@
 -- A prefix by value: what its places mean, how many weaker prefixes it has, and which they are.
 use Rattle.std.specs.Prelude.{ℕ, zero, suc, ◌+◌, ◌*◌, ◌-◌, ◌/◌, ◌%◌, ◌^◌, ◌≤◌, ◌<◌, ◌≡◌, Bool, true, false, ◌&&◌, List, [], ◌∷◌, ◌++◌, length, take, drop, replicate, eqb}
-use Rattle.nodes.specs.Nodes.{node_rows, node_table, node_kind, node_above, node_depth, node_cell}
+use Rattle.nodes.specs.Nodes.{node_rows, node_kind, node_above, node_depth, node_cell}
 use Rattle.prefix.specs.declared.Place.{Place}
 use Rattle.prefix.specs.declared.Prefix.{Prefix}
 
@@ -48,7 +48,6 @@ Climbs t (suc k) i = (i < node_rows) × Climbs t k (node_cell t node_above i)
 
 -- what is asked of a table to read the prefix of node i off it
 pub record Readable (t : List ℕ) (i : ℕ) : Type 0 where
-  pub long : length t ≡ node_table
   pub row : i < node_rows
   pub few : node_cell t node_depth i ≤ most_places
   pub climbs : Climbs t (node_cell t node_depth i) (node_cell t node_above i)

@@ -11,7 +11,7 @@ use lib.Seq.{drop-cons}
 use borrow.Author.Tests.{eq-eqb, ne_eqb}
 use Rattle.infon.specs.Bytes.{space}
 use Rattle.infon.specs.Formula.{Formula, spelling}
-use Rattle.infon.specs.declared.Verdict.TheVariants.{Passed}
+use Rattle.infon.specs.Codes.{passed}
 use Rattle.infon.specs.Policy.{cut, placed, lines_of, entries_from, entries_of, queries_of, code2}
 use Rattle.lines.specs.Lining.{until_feed}
 use Rattle.lines.proofs.Feeds.{code2_begin}
@@ -40,7 +40,7 @@ pub record Going (file : List ℕ) (asked : Bool) (answers b₀ b₁ : List ℕ)
   pub short : length text ≤ 32 * count + start
   pub whole : text ++ text_from file asked answers count start ≡ whole_text file asked answers
 
-pub begin : (file : List ℕ) (asked : Bool) (answers b : List ℕ) → code2 file ≡ Passed → Going file asked answers b b 0 0 0
+pub begin : (file : List ℕ) (asked : Bool) (answers b : List ℕ) → code2 file ≡ passed → Going file asked answers b b 0 0 0
 unfolding printed_answers entries_of lines_of
 begin file asked answers b lines =
     record {

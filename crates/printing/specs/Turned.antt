@@ -1,6 +1,6 @@
 -- What a file must be so that its answers can be printed, and what one line of it adds to the text.
 use Rattle.std.specs.Prelude.{ℕ, ◌+◌, ◌-◌, ◌*◌, ◌≤◌, ◌≡◌, Bool, cond, List, [], length, get_or, take, drop, eqb}
-use Rattle.infon.specs.declared.Verdict.TheVariants.{Passed}
+use Rattle.infon.specs.Codes.{passed}
 use Rattle.infon.specs.Policy.{code2}
 use Rattle.writing.specs.Placed.{Put}
 use Rattle.writing.specs.Texts.{line_of}
@@ -8,7 +8,7 @@ use Rattle.printing.specs.declared.Progress.{Progress}
 
 -- the lines of a file are well formed, and there is room for an answer to each of so many and for the file's questions
 pub record Printable (file answers out : List ℕ) : Type 0 where
-  pub lines : code2 file ≡ Passed
+  pub lines : code2 file ≡ passed
   pub room : 32 * length answers + length file ≤ length out
 
 -- where the part of the file begins that stands behind an answer: with the space after the letter, or at the line's end, where

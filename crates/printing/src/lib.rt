@@ -16,14 +16,12 @@ pub struct Progress {
 
 // Where the part of a query's line begins that is printed behind its answer: with the space after the letter, or at the end of the
 // line, where nothing is left of it.
+#[tactic(auto, unfolding(crate::specs::Turned::behind_from))]
 fn behind_from(asked: bool, start: usize, end: usize) -> usize
     requires { start < end }
     ensures { result ≡ behind_from asked start end }
 {
-    if asked {
-        return start + 1;
-    }
-    end
+    if asked { start + 1 } else { end }
 }
 
 // Puts the line for the file's line from start to end, if that is a query's, with the next answer.
@@ -33,18 +31,18 @@ fn put_query(
     end: usize,
     asked: bool,
     answers: &[u8],
-    count: usize,
+    so_far: Progress,
     out: &mut [u8],
-    at: usize,
 ) -> Progress
     requires inside { (start < end) × (end ≤ length file.now) }
-    requires answered { count < length answers.now }
-    requires room { at + 32 + (end - start) ≤ length out.old }
-    ensures { Turned file.now start end asked answers.now count at out.old result out.new }
+    requires answered { so_far.count < length answers.now }
+    requires room { so_far.at + 32 + (end - start) ≤ length out.old }
+    ensures { Turned file.now start end asked answers.now so_far.count so_far.at out.old result out.new }
 {
     if file[start] != b'Q' {
-        return Progress { at, count };
+        return so_far;
     }
+    let Progress { at, count } = so_far;
     let from = behind_from(asked, start, end);
     let next = writing::put_line(count + 1, answers[count], &file[from..end], out, at);
     Progress {
@@ -59,23 +57,22 @@ fn print_answers(file: &[u8], asked: bool, answers: &[u8], out: &mut [u8]) -> us
     requires { Printable file.now answers.now out.old }
     ensures { Prints (printed_answers asked (queries_of (entries_of file.now)) answers.now) out.old result out.new }
 {
-    let mut at = 0;
-    let mut count = 0;
+    let mut so_far = Progress { at: 0, count: 0 };
+    // No library iterator over lines tells where each begins and that none is left unended, as the laws of `lines` do.
     let mut start = 0;
     while start < file.len() {
-        if answers.len() <= count {
-            return at;
+        if answers.len() <= so_far.count {
+            return so_far.at;
         }
         let end = lines::line_end(file, start);
-        let next = put_query(file, start, end, asked, answers, count, out, at);
-        at = next.at;
-        count = next.count;
+        so_far = put_query(file, start, end, asked, answers, so_far, out);
         start = end + 1;
     }
-    at
+    so_far.at
 }
 
-// Prints what a run of a file found, the refusal alone or a line for each query, and returns the length of the text.
+// Prints what a run of a file found, the refusal alone or a line for each query, and returns the length of the text. The code and the
+// place come as the report for C has them: code 0 is none.
 #[tactic(auto, unfolding(crate::specs::Printed::printed_run))]
 pub fn print_run(
     file: &[u8],

@@ -7,7 +7,8 @@ use native.Mathlib.Omega.{arith}
 use mathlib.Core.Path.{◌≡◌, refl, sym, ◌∙◌, ap, subst}
 use mathlib.Core.Logic.{⊎_elim}
 use mathlib.Core.Bool.{Bool, true, false, ◌||◌, or-false, or_comm, or_assoc, false≢true}
-use mathlib.Core.Option.{Option, some}
+use Rattle.std.proofs.lemmas.Bool.{cases_Bool}
+use Rattle.std.specs.Prelude.{Option, Some}
 use mathlib.Core.List.{List, [], ◌∷◌, ◌++◌, append-nil, append_assoc}
 use lib.ListN.{length, set, length-set, length-append}
 use lib.Dec.{eqb}
@@ -20,7 +21,6 @@ use Rattle.infon.specs.Journal.{is_for, record_bytes, no_premise, first_premise,
 use Rattle.infon.specs.Bytes.{some_of}
 use Rattle.infon.specs.Formula.{Formula}
 use Rattle.infon.specs.Reasons.{is_premise, is_used, reasons}
-use Rattle.infon.proofs.Rows.{decided}
 use Rattle.infon.proofs.Grown.{GoodRow}
 use Rattle.infon.proofs.Reasons.{used_behind}
 use Rattle.reader.specs.Decoded.{record_at}
@@ -47,7 +47,7 @@ wanted_set wanted n p low =
     let same = eqb-true p n h in
     rw (h, ← same, get_or-set_same {A = ℕ} wanted p 1 0 low))
     (λ (h : eqb p n ≡ false). rw (h, get_or-set_other {A = ℕ} wanted n p 1 0 (λ e. false≢true (sym h ∙ eq-eqb p n e))))
-    (decided (eqb p n))
+    (cases_Bool (eqb p n))
 
 -- a way's premises are wanted
 wish_wanted : (way : Way) (wanted : List ℕ) (p : ℕ) → p < length wanted → length wanted ≤ 65535
@@ -93,7 +93,7 @@ reasons_none fs x = refl
 -- What is known of a journal's first records, of the formula that is asked for, with its number, and of the row in which only that
 -- number is wanted.
 pub record Asks (fs : List Formula) (x : Formula) (number : ℕ) (rs : List Record) (journal wanted : List ℕ) : Type 0 where
-  pub reads : (front rest : List Record) (r : Record) → rs ≡ front ++ (r ∷ rest) → record_at journal (record_bytes * length front) ≡ some r
+  pub reads : (front rest : List Record) (r : Record) → rs ≡ front ++ (r ∷ rest) → record_at journal (record_bytes * length front) ≡ Some r
   pub short : length wanted ≤ 65535
   pub numbers : (front rest : List Record) (r : Record) → rs ≡ front ++ (r ∷ rest) → r.formula < length wanted
   pub own : (front rest : List Record) (r : Record) → rs ≡ front ++ (r ∷ rest) → is_for fs x r ≡ eqb r.formula number
@@ -110,29 +110,29 @@ module _ (fs : List Formula) (x : Formula) (number : ℕ) (rs : List Record) (jo
       ∙ or_comm (is_used r.formula row) (is_for fs x r))
 
   step_wishes : (rest : List Record) (r : Record) → is_wanted (wishes (reasons fs x rest) wanted) r.formula ≡ is_for fs x r || is_used r.formula (reasons fs x rest)
-      → wish_for (only_wanted (wishes (reasons fs x rest) wanted) (some r)) (wishes (reasons fs x rest) wanted) ≡ wishes (reasons fs x (r ∷ rest)) wanted
+      → wish_for (only_wanted (wishes (reasons fs x rest) wanted) (Some r)) (wishes (reasons fs x rest) wanted) ≡ wishes (reasons fs x (r ∷ rest)) wanted
   unfolding reasons wishes wish_for only_wanted
   step_wishes rest r e =
       ⊎_elim (λ (h : is_for fs x r || is_used r.formula (reasons fs x rest) ≡ true). rw (e, h))
       (λ (h : is_for fs x r || is_used r.formula (reasons fs x rest) ≡ false). rw (e, h))
-      (decided (is_for fs x r || is_used r.formula (reasons fs x rest)))
+      (cases_Bool (is_for fs x r || is_used r.formula (reasons fs x rest)))
 
   step_counts : (rest : List Record) (r : Record) → is_wanted (wishes (reasons fs x rest) wanted) r.formula ≡ is_for fs x r || is_used r.formula (reasons fs x rest)
-      → length (one_of (only_wanted (wishes (reasons fs x rest) wanted) (some r))) + length (reasons fs x rest) ≡ length (reasons fs x (r ∷ rest))
+      → length (one_of (only_wanted (wishes (reasons fs x rest) wanted) (Some r))) + length (reasons fs x rest) ≡ length (reasons fs x (r ∷ rest))
   unfolding reasons one_of only_wanted
   step_counts rest r e =
       ⊎_elim (λ (h : is_for fs x r || is_used r.formula (reasons fs x rest) ≡ true). rw (e, h) (omega arith))
       (λ (h : is_for fs x r || is_used r.formula (reasons fs x rest) ≡ false). rw (e, h) (omega arith))
-      (decided (is_for fs x r || is_used r.formula (reasons fs x rest)))
+      (cases_Bool (is_for fs x r || is_used r.formula (reasons fs x rest)))
 
   -- one step down
-  swept_one : (i : ℕ) (rest : List Record) (r : Record) → record_at journal (record_bytes * i) ≡ some r
+  swept_one : (i : ℕ) (rest : List Record) (r : Record) → record_at journal (record_bytes * i) ≡ Some r
       → is_wanted (wishes (reasons fs x rest) wanted) r.formula ≡ is_for fs x r || is_used r.formula (reasons fs x rest)
       → swept_down journal (suc i) (wishes (reasons fs x rest) wanted) ≡ swept_down journal i (wishes (reasons fs x (r ∷ rest)) wanted)
   unfolding swept_down
   swept_one i rest r here test = rw here (ap (swept_down journal i) (step_wishes rest r test))
 
-  found_one : (i : ℕ) (rest : List Record) (r : Record) → record_at journal (record_bytes * i) ≡ some r
+  found_one : (i : ℕ) (rest : List Record) (r : Record) → record_at journal (record_bytes * i) ≡ Some r
       → is_wanted (wishes (reasons fs x rest) wanted) r.formula ≡ is_for fs x r || is_used r.formula (reasons fs x rest)
       → length (reasons fs x rest) + found_down journal (suc i) (wishes (reasons fs x rest) wanted)
       ≡ length (reasons fs x (r ∷ rest)) + found_down journal i (wishes (reasons fs x (r ∷ rest)) wanted)
@@ -153,7 +153,7 @@ module _ (fs : List Formula) (x : Formula) (number : ℕ) (rs : List Record) (jo
       one_more : length (front ++ (r ∷ [])) ≡ suc (length front)
       one_more = length-append front (r ∷ []) ∙ add-one (length front)
 
-      here : record_at journal (record_bytes * length front) ≡ some r
+      here : record_at journal (record_bytes * length front) ≡ Some r
       here = asks.reads front rest r e
 
       test : is_wanted (wishes (reasons fs x rest) wanted) r.formula ≡ is_for fs x r || is_used r.formula (reasons fs x rest)
@@ -178,12 +178,12 @@ module _ (fs : List Formula) (x : Formula) (number : ℕ) (rs : List Record) (jo
   swept_reasons = (swept_to [] rs refl).0
 
   step_picked : (rest : List Record) (r : Record) (row : List ℕ) → is_wanted row r.formula ≡ is_for fs x r || is_used r.formula (reasons fs x rest)
-      → one_of (only_wanted row (some r)) ++ reasons fs x rest ≡ reasons fs x (r ∷ rest)
+      → one_of (only_wanted row (Some r)) ++ reasons fs x rest ≡ reasons fs x (r ∷ rest)
   unfolding reasons one_of only_wanted
   step_picked rest r row e =
       ⊎_elim (λ (h : is_for fs x r || is_used r.formula (reasons fs x rest) ≡ true). rw (e, h))
       (λ (h : is_for fs x r || is_used r.formula (reasons fs x rest) ≡ false). rw (e, h))
-      (decided (is_for fs x r || is_used r.formula (reasons fs x rest)))
+      (cases_Bool (is_for fs x r || is_used r.formula (reasons fs x rest)))
 
   module _ (hyps : List Formula) (goods : GoodRow hyps fs [] rs) where
     -- a record is wanted in the end exactly where it was when its turn came

@@ -1,4 +1,3 @@
-pub mod Wanting
-mod Lending
 pub mod Choosing
+mod Lending
 pub mod Joined

@@ -1,6 +1,5 @@
 -- Which records of a journal are wanted, by their formulas' numbers: what the code goes through. The laws join it to the reasons.
-use Rattle.std.specs.Prelude.{ℕ, zero, suc, ◌+◌, ◌*◌, ◌≡◌, Bool, cond, List, [], ◌∷◌, ◌++◌, length, get_or, set, eqb}
-use Rattle.std.proofs.Math.Option.{Option, none, some}
+use Rattle.std.specs.Prelude.{ℕ, zero, suc, ◌+◌, ◌*◌, ◌≡◌, Bool, cond, List, [], ◌∷◌, ◌++◌, length, get_or, set, eqb, Option, None, Some}
 use Rattle.infon.specs.declared.Way.{Way}
 use Rattle.infon.specs.declared.Record.{Record}
 use Rattle.infon.specs.Journal.{record_bytes, first_premise, second_premise}
@@ -16,16 +15,16 @@ wish way wanted = set (set wanted (first_premise way) 1) (second_premise way) 1
 
 -- a record, if there is one and it is wanted
 unfoldable pub only_wanted : List ℕ → Option Record → Option Record
-only_wanted wanted none = none
-only_wanted wanted (some r) = cond (is_wanted wanted r.formula) (some r) none
+only_wanted wanted None = None
+only_wanted wanted (Some r) = cond (is_wanted wanted r.formula) (Some r) None
 
 unfoldable pub wish_for : Option Record → List ℕ → List ℕ
-wish_for none wanted = wanted
-wish_for (some r) wanted = wish r.way wanted
+wish_for None wanted = wanted
+wish_for (Some r) wanted = wish r.way wanted
 
 unfoldable pub one_of : Option Record → List Record
-one_of none = []
-one_of (some r) = r ∷ []
+one_of None = []
+one_of (Some r) = r ∷ []
 
 -- the wanted record with a count, from 0, in the journal
 abbrev pub wanted_at : List ℕ → List ℕ → ℕ → Option Record
@@ -45,11 +44,6 @@ found_down journal (suc i) wanted =
 unfoldable pub wanted_to : List ℕ → List ℕ → ℕ → List Record
 wanted_to journal wanted zero = []
 wanted_to journal wanted (suc i) = wanted_to journal wanted i ++ one_of (wanted_at journal wanted i)
-
--- What looking at one record gives: whether it is wanted, and its premises wanted then.
-pub record Weighs (journal : List ℕ) (i : ℕ) (wanted : List ℕ) (found : ℕ) (after : List ℕ) : Type 0 where
-  pub told : found ≡ length (one_of (wanted_at journal wanted i))
-  pub wishes : after ≡ wish_for (wanted_at journal wanted i) wanted
 
 -- What going through the first `kept` records gives.
 pub record Chooses (journal : List ℕ) (kept : ℕ) (wanted : List ℕ) (found : ℕ) (after : List ℕ) : Type 0 where

@@ -1,23 +1,19 @@
 // The records that a recorded formula rests on: which of a journal's records are wanted for it, and these lent to a buffer.
 #![tactic(auto)]
 
-ghost use Rattle.std.specs.Prelude.{◌≡◌, ◌+◌, ◌*◌, ◌≤◌, ◌<◌, length, set};
+ghost use Rattle.std.specs.Prelude.{◌≡◌, ◌+◌, ◌*◌, ◌≤◌, length, set};
 ghost use Rattle.infon.specs.Journal.{record_bytes, spelled_all};
 ghost use Rattle.infon.specs.Run.{written};
-ghost use Rattle.reader.specs.Decoded.{to_decoded};
-ghost use Rattle.reasons.specs.Wanted.{is_wanted, wish, wanted_at, one_of, wanted_to, Weighs, Chooses};
+ghost use Rattle.reasons.specs.Wanted.{is_wanted, wish, wanted_at, wanted_to, Chooses};
 
-use infon::{RECORD_BYTES, Way};
-use reader::Decoded;
+use infon::{RECORD_BYTES, Record, Way};
 
 // Whether a number is wanted; none beyond the row is.
+#[tactic(auto, unfolding(crate::specs::Wanted::is_wanted))]
 fn is_wanted(wanted: &[u8], number: usize) -> bool
     ensures { result ≡ is_wanted wanted.now number }
 {
-    if number < wanted.len() {
-        return wanted[number] == 1;
-    }
-    false
+    wanted.get(number).is_some_and(|cell| *cell == 1)
 }
 
 // Has a number wanted, if the row reaches it.
@@ -30,6 +26,7 @@ pub fn want(wanted: &mut [u8], number: usize)
 }
 
 // Has the premises of a way wanted; the mark for none is a number beyond the row.
+#[tactic(auto, unfolding(crate::specs::Wanted::wish))]
 fn want_premises(wanted: &mut [u8], way: Way)
     ensures { wanted.new ≡ wish way wanted.old }
 {
@@ -40,30 +37,17 @@ fn want_premises(wanted: &mut [u8], way: Way)
 }
 
 // The journal's record with a count, if it is wanted.
-fn wanted_at(journal: &[u8], i: usize, wanted: &[u8]) -> Decoded
+#[tactic(auto, unfolding(crate::specs::Wanted::only_wanted))]
+fn wanted_at(journal: &[u8], i: usize, wanted: &[u8]) -> Option<Record>
     requires { record_bytes * (i + 1) ≤ length journal.now }
-    ensures { result ≡ to_decoded (wanted_at journal.now wanted.now i) }
+    ensures { result ≡ wanted_at journal.now wanted.now i }
 {
-    let Decoded::Record(r) = reader::record_at(journal, RECORD_BYTES * i) else {
-        return Decoded::Nothing;
-    };
+    let r = reader::record_at(journal, RECORD_BYTES * i)?;
     if is_wanted(wanted, r.formula) {
-        return Decoded::Record(r);
+        Some(r)
+    } else {
+        None
     }
-    Decoded::Nothing
-}
-
-// Has the premises of a record wanted, if it is itself, and counts it then.
-fn weigh(journal: &[u8], i: usize, wanted: &mut [u8]) -> usize
-    requires { record_bytes * (i + 1) ≤ length journal.now }
-    ensures { Weighs journal.now i wanted.old result wanted.new }
-{
-    let Decoded::Record(r) = wanted_at(journal, i, wanted) else {
-        return 0;
-    };
-    let way = r.way;
-    want_premises(wanted, way);
-    1
 }
 
 // Goes from the last of a journal's first records to the first, has wanted what each wanted one rests on, and counts these.
@@ -72,27 +56,13 @@ pub fn choose(journal: &[u8], kept: usize, wanted: &mut [u8]) -> usize
     ensures { Chooses journal.now kept wanted.old result wanted.new }
 {
     let mut found = 0;
-    let mut i = kept;
-    while 0 < i {
-        i -= 1;
-        found += weigh(journal, i, wanted);
+    for i in (0..kept).rev() {
+        if let Some(r) = wanted_at(journal, i, wanted) {
+            want_premises(wanted, r.way);
+            found += 1;
+        }
     }
     found
-}
-
-// Puts a record, if it is wanted, into the lent buffer behind so many; gives how many stand there then.
-fn lend_at(journal: &[u8], i: usize, wanted: &[u8], out: &mut [u8], count: usize) -> usize
-    requires { (record_bytes * (i + 1) ≤ length journal.now)
-        × (record_bytes * (count + length (one_of (wanted_at journal.now wanted.now i))) ≤ length out.old) }
-    ensures { (result ≡ count + length (one_of (wanted_at journal.now wanted.now i)))
-        × (out.new ≡ written out.old (record_bytes * count) (spelled_all (one_of (wanted_at journal.now wanted.now i)))) }
-{
-    let Decoded::Record(r) = wanted_at(journal, i, wanted) else {
-        return count;
-    };
-    let at = RECORD_BYTES * count;
-    journal::encode(&mut out[at..], r);
-    count + 1
 }
 
 // Puts the wanted ones of a journal's first records together at the front of the lent buffer, in journal order.
@@ -102,9 +72,11 @@ pub fn lend(journal: &[u8], kept: usize, wanted: &[u8], out: &mut [u8])
     ensures { out.new ≡ written out.old 0 (spelled_all (wanted_to journal.now wanted.now kept)) }
 {
     let mut count = 0;
-    let mut i = 0;
-    while i < kept {
-        count = lend_at(journal, i, wanted, out, count);
-        i += 1;
+    for i in 0..kept {
+        if let Some(r) = wanted_at(journal, i, wanted) {
+            let at = RECORD_BYTES * count;
+            journal::encode(&mut out[at..], r);
+            count += 1;
+        }
     }
 }

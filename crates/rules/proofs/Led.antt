@@ -7,10 +7,10 @@ use mathlib.Core.List.{List}
 use lib.ListN.{get_or}
 use lib.Dec.{eqb, ltb}
 use lib.Bits.{bit_and}
-use borrow.Author.Tests.{lt-ltb, le-ltb, eq-eqb}
+use borrow.Author.Tests.{lt-ltb, le-ltb}
+use Rattle.std.proofs.lemmas.Bool.{and_parts}
 use Rattle.infon.specs.declared.Way.{Way}
 use Rattle.infon.specs.declared.Record.{Record}
-use Rattle.infon.proofs.Rows.{and_true}
 use Rattle.formulas.specs.Tests.{gives_in, is_marked, premises_marked, leads_to, good_in}
 use Rattle.formulas.proofs.Given.{marked_below}
 
@@ -39,7 +39,7 @@ pub unled : (t : List ℕ) (n : ℕ) (marks : List ℕ) (f : ℕ) {way w : Way} 
 unfolding leads_to
 unled t n marks f e premises h = rw e (first_failed (gives_in t _ f) premises h)
 
-pub not_listed : (t : List ℕ) (n : ℕ) (marks : List ℕ) (r : Record) → n ≤ r.formula → false ≡ good_in t n marks r
+pub not_listed : (t : List ℕ) (n : ℕ) (marks : List ℕ) (r : Record) → n ≤ r.formula → ltb r.formula n ≡ good_in t n marks r
 unfolding good_in
 not_listed t n marks r h = rw (le-ltb r.formula n h)
 
@@ -54,9 +54,6 @@ unfolding good_in
 good_led t n marks r h e unmarked leads = rw (lt-ltb r.formula n h) (first_passed (sym (ap not e) ∙ unmarked) leads)
 
 -- a number that was read stands for its cell
-pub equal_passed : {r cell : ℕ} (x : ℕ) → r ≡ cell → r ≡ x → eqb cell x ≡ true
-equal_passed x e h = eq-eqb _ x (sym e ∙ h)
-
 pub equal_reads : {r s cell cell₂ : ℕ} → r ≡ cell → s ≡ cell₂ → eqb r s ≡ eqb cell cell₂
 equal_reads e h = rw (e, h)
 
@@ -67,4 +64,4 @@ pub contained : {p f puts-p puts-f : ℕ} → p ≡ puts-p → f ≡ puts-f → 
 contained e h = rw (e, h)
 
 pub second_below : (n : ℕ) (marks : List ℕ) (p q : ℕ) {r : Bool} → r ≡ is_marked n marks p && is_marked n marks q → r ≡ true → q < n
-second_below n marks p q e h = marked_below n marks q (and_true (is_marked n marks p) (is_marked n marks q) (sym e ∙ h)).1
+second_below n marks p q e h = marked_below n marks q (and_parts (is_marked n marks p) (is_marked n marks q) (sym e ∙ h)).1

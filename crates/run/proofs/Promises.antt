@@ -5,7 +5,7 @@ use Prim.Native.Nat.{ℕ, ◌*◌, ◌/◌, ◌≤◌, ◌<◌, min}
 use mathlib.Core.Path.{◌≡◌, sym, ◌∙◌, ap, subst}
 use mathlib.Core.Logic.{◌↔◌}
 use mathlib.Core.Bool.{true, false}
-use mathlib.Core.Option.{some}
+use Rattle.std.specs.Prelude.{Some}
 use mathlib.Core.List.{List, [], ◌∷◌, ◌++◌, map}
 use lib.ListN.{length, take, get_or}
 use Rattle.infon.specs.declared.Record.{Record}
@@ -145,10 +145,10 @@ module _ (file journal : List ℕ) (used limit : ℕ) (answers : List ℕ) (repo
   pub keeps_the_longest : report.code ≡ 0
       → (report.kept ≡ length (kept_part file journal used))
       × ((take (record_bytes * report.kept) journalAfter ≡ take (record_bytes * report.kept) journal)
-      × ((map decoded (take report.kept (whole_records (used / record_bytes) journal)) ≡ map some (kept_part file journal used))
+      × ((map decoded (take report.kept (whole_records (used / record_bytes) journal)) ≡ map Some (kept_part file journal used))
       × (GoodRow (hypotheses_in file) (list_in file) [] (kept_part file journal used)
       × ((row : List Record) → GoodRow (hypotheses_in file) (list_in file) [] row
-      → map decoded (take (length row) (whole_records (used / record_bytes) journal)) ≡ map some row
+      → map decoded (take (length row) (whole_records (used / record_bytes) journal)) ≡ map Some row
       → take (length row) (kept_part file journal used) ≡ row))))
   keeps_the_longest code =
       let such_a_row = Demands.kept_is_such_a_row file journal used in

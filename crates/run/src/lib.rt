@@ -6,7 +6,8 @@ ghost use Rattle.std.specs.Prelude.{◌≡◌};
 ghost use Rattle.infon.specs.Run.{run as ranOn};
 ghost use Rattle.working.specs.Working.{left};
 
-use infon::{Report, Verdict};
+use formulas::Formulas;
+use infon::Report;
 
 // A run: takes the file, the journal buffer, its used length, a limit and the answer buffer. Every input gets its answer.
 pub fn run(file: &[u8], journal: &mut [u8], used: usize, limit: usize, answers: &mut [u8]) -> Report
@@ -16,12 +17,15 @@ pub fn run(file: &[u8], journal: &mut [u8], used: usize, limit: usize, answers: 
     let mut nodes = [0u16; nodes::CELLS];
     let mut table = [0u16; formulas::CELLS];
     let mut queries = [0u16; nodes::ROWS];
-    let accepted = accept::accept(file, &mut nodes, &mut table, &mut queries);
-    let verdict = accepted.verdict;
-    if let Verdict::Refused { code, place } = verdict {
-        return sizes::refusal(code, place, used);
+    match accept::accept(file, &mut nodes, &mut table, &mut queries) {
+        Ok(accepted) => {
+            let list = Formulas {
+                table: &table,
+                n: accepted.formulas,
+            };
+            let asked = &queries[..accepted.queries];
+            working::proceed(list, asked, journal, used, limit, answers)
+        }
+        Err(by) => sizes::refusal(by, used),
     }
-    let n = accepted.formulas;
-    let asked = accepted.queries;
-    working::proceed(&table, n, &queries, asked, journal, used, limit, answers)
 }

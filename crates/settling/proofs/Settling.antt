@@ -1,12 +1,12 @@
 -- What the run leaves, what is printed of it and what is told of the journal settle a call.
 -- Assumes nothing.
-use Prim.Native.Nat.{ℕ, zero, suc, ◌≤◌, ◌<◌}
+use Prim.Native.Nat.{ℕ, ◌≤◌, ◌<◌}
 use native.Mathlib.Omega.{arith}
 use mathlib.Core.Path.{◌≡◌, refl, sym, ◌∙◌, ap}
 use mathlib.Core.Bool.{Bool}
-use mathlib.Core.List.{List, ◌∷◌, ◌++◌}
-use lib.ListN.{length, take, replicate, length-append}
-use lib.Seq.{take_at}
+use mathlib.Core.List.{List}
+use lib.ListN.{length, take, replicate}
+use Rattle.std.proofs.lemmas.List.{take-replicate}
 use borrow.Author.Tests.{lt-ltb, le-ltb}
 use Rattle.infon.specs.declared.Report.{Report}
 use Rattle.infon.specs.Run.{Outcome, run}
@@ -46,25 +46,6 @@ zeros n = replicate n 0
 abbrev pub row_for : List ℕ → List ℕ
 row_for text = zeros (answer_room text)
 
--- its front, put back before the rest of it
-module _ (row rest : List ℕ) (n : ℕ) (long : length row ≡ n) where
-  pub share_within : n ≤ length (row ++ rest)
-  share_within = simp length-append (omega arith)
-
-  pub share_back : take n (row ++ rest) ≡ row
-  share_back = take_at row rest n long
-
-  pub share_counts : n ≡ length (take n (row ++ rest))
-  share_counts = sym (ap length share_back ∙ long)
-
-  pub share_short : n ≤ 1024 → length (take n (row ++ rest)) ≤ 1024
-  share_short h = omega (arith, share_counts)
-
-front_zeros : (n m : ℕ) → n ≤ m → take n (zeros m) ≡ zeros n
-front_zeros zero m h = refl
-front_zeros (suc n) zero h = absurd (omega arith)
-front_zeros (suc n) (suc m) h = ap (λ (l : List ℕ). 0 ∷ l) (front_zeros n m (omega arith))
-
 module _ (file journal : List ℕ) (used limit : ℕ) (asked : Bool) (text : List ℕ) (room : ℕ) (told-room : room ≡ answer_room text)
     (report : Report) (after answers : List ℕ) (ran : left report after answers ≡ run file journal used limit (take room (zeros 1024))) where
   room_inside : room ≤ 1024
@@ -72,13 +53,13 @@ module _ (file journal : List ℕ) (used limit : ℕ) (asked : Bool) (text : Lis
 
   ran_so : left report after answers ≡ settled_run file journal used limit text
   unfolding settled_run
-  ran_so = ran ∙ ap (run file journal used limit) (front_zeros room 1024 room_inside ∙ ap zeros told-room)
+  ran_so = ran ∙ ap (run file journal used limit) (take-replicate room 1024 0 room_inside ∙ ap zeros told-room)
 
   code_now : report.code ≡ (run file journal used limit (take room (zeros 1024))).report.code
   code_now = ap (λ (o : Outcome). o.report.code) ran
 
-  pub shows : (part : List ℕ) → length part ≤ 1024 → Shows file report.code part
-  shows part few =
+  pub shows : length answers ≤ 1024 → Shows file report.code answers
+  shows few =
       record {
         few = few;
         within = λ accepted.
@@ -91,18 +72,18 @@ module _ (file journal : List ℕ) (used limit : ℕ) (asked : Bool) (text : Lis
   unfolding settled_text
   told_text = ap (λ (o : Outcome). text_of asked file o.report.code o.report.place o.answers text) ran_so
 
-  pub settled_so : (begun : Bool) → begun ≡ is_begun (rest_of journal used) → (n : ℕ) (part printed : List ℕ) → part ≡ answers
-      → Prints (text_of asked file report.code report.place part text) text n printed → (settled : Settlement) → settled ≡ settlement_of report used begun n
+  pub settled_so : (begun : Bool) → begun ≡ is_begun (rest_of journal used) → (n : ℕ) (printed : List ℕ)
+      → Prints (text_of asked file report.code report.place answers text) text n printed → (settled : Settlement) → settled ≡ settlement_of report used begun n
       → Settles file journal used limit asked text settled after printed
   unfolding settlement_of dropped_of
-  settled_so begun told-begun n part printed same p settled e =
+  settled_so begun told-begun n printed p settled e =
       rw (e, told-begun)
       record {
         report_now = ap (λ (o : Outcome). o.report) ran_so;
         journal_now = ap (λ (o : Outcome). o.journal) ran_so;
         records_had = refl;
         dropped_now = refl;
-        prints = rw (sym told_text, sym same) p;
+        prints = rw (sym told_text) p;
       }
 
 -- where a settled call was not refused, its run was not either

@@ -15,7 +15,8 @@ use Rattle.infon.specs.Bytes.{bytes}
 use Rattle.infon.specs.Formula.{Formula, True}
 use Rattle.infon.specs.Journal.{is_finished}
 use Rattle.infon.specs.Run.{answer_byte, answer_of, answers_of, is_on_record}
-use Rattle.infon.proofs.Rows.{decided, get_d_map}
+use Rattle.std.proofs.lemmas.Bool.{cases_Bool}
+use Rattle.std.proofs.lemmas.List.{get_or-map}
 use Rattle.infon.proofs.Codec.{AreBytes}
 use Rattle.infon.proofs.Demands.{hypotheses_in, queries_in, query_at, list_in, kept_part, records_left, read_back}
 use Rattle.infon.proofs.Refusals.{lets_pass}
@@ -59,7 +60,7 @@ module _ (file journal : List ℕ) (used limit : ℕ) (asked : Bool) (text : Lis
       ⊎_elim
       (λ (e : ltb (length text) text_bytes ≡ true). rw e (none_asked asked (queries_in file) _ (none_in_short e)))
       (λ (e : ltb (length text) text_bytes ≡ false). rw e (answers_printed asked file journal used limit (row_for text) (accepted_run settles accepted)))
-      (decided (ltb (length text) text_bytes))
+      (cases_Bool (ltb (length text) text_bytes))
 
   as_many : length (said_in file journal used limit) ≡ length (queries_in file)
   unfolding answers_of
@@ -83,8 +84,8 @@ module _ (file journal : List ℕ) (used limit : ℕ) (asked : Bool) (text : Lis
   said_at i low =
       let left = records_left file journal used limit in
       let answer : Formula → Answer = λ (x : Formula). answer_of (is_on_record (list_in file) left x) (is_finished (hypotheses_in file) (list_in file) left) in
-      get_d_map answer_byte (map answer (queries_in file)) i Open 0 (rw (length-map (queries_in file) answer) low)
-      ∙ ap answer_byte (get_d_map answer (queries_in file) i True Open low)
+      get_or-map answer_byte (map answer (queries_in file)) i Open 0 (rw (length-map (queries_in file) answer) low)
+      ∙ ap answer_byte (get_or-map answer (queries_in file) i True Open low)
 
   -- A query whose line, which `line_at` shows, has the word yes is on record for whoever reads back bytes that begin as the journal's
   -- used bytes do. The numbers in the journal's buffer are bytes, below 256 each (`AreBytes`), as in every slice that a program lends.

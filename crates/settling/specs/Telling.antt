@@ -1,7 +1,7 @@
 -- What the parts of a settlement are told from: the numbers at hand before and after the run.
 use Rattle.std.specs.Prelude.{ℕ, ◌≤◌, ◌/◌, ◌≡◌, Bool, cond, List, length, eqb}
 use Rattle.infon.specs.declared.Report.{Report}
-use Rattle.infon.specs.declared.Verdict.TheVariants.{Passed}
+use Rattle.infon.specs.Codes.{passed}
 use Rattle.infon.specs.Policy.{most_bytes, code2}
 use Rattle.infon.specs.Journal.{record_bytes}
 use Rattle.settling.specs.declared.Settlement.{Settlement}
@@ -22,4 +22,4 @@ settlement_of report used begun count =
 -- what is known of a run whose answers are shown: at most 1,024 there are, and only a file within its limits is not refused
 pub record Shows (file : List ℕ) (code : ℕ) (answers : List ℕ) : Type 0 where
   pub few : length answers ≤ 1024
-  pub within : code ≡ 0 → (code2 file ≡ Passed) × (length file ≤ most_bytes)
+  pub within : code ≡ 0 → (code2 file ≡ passed) × (length file ≤ most_bytes)

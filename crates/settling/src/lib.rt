@@ -8,10 +8,10 @@ ghost use Rattle.settling.specs.Settled.{answer_room, text_of, Settles};
 ghost use Rattle.settling.specs.Telling.{settlement_of, Shows};
 
 use infon::{RECORD_BYTES, Report};
-use remains::{dropped_by, is_begun};
+use remains::{Dropped, dropped_by, is_begun};
 
-// What a call came to, laid out for C: the run's report, how many whole records the journal had, what of it was not kept, and the
-// length of the text.
+// What a call came to, laid out for C: the run's report, how many whole records the journal had, what of it was not kept (for C a
+// number), and the length of the text.
 #[repr(C)]
 #[derive(Clone, Copy)]
 pub struct Settlement {
@@ -21,17 +21,19 @@ pub struct Settlement {
     pub length: usize,
 }
 
-// A text of so many bytes holds whatever is printed, and a journal of so many every record of the longest list; a limit of so many
-// records is never reached.
-pub const TEXT_BYTES: usize = 65536;
-
-pub const JOURNAL_BYTES: usize = 36864;
-
+// A limit of so many records is never reached, and no file asks more than so many queries.
 pub const EVERY_RECORD: usize = 4096;
 
 const MOST_ANSWERS: usize = 1024;
 
+// A journal of so many bytes holds every record of the longest list, and a text of so many whatever is printed: 32 for each answer, and
+// the questions of the longest file.
+pub const JOURNAL_BYTES: usize = RECORD_BYTES * EVERY_RECORD;
+
+pub const TEXT_BYTES: usize = 32 * MOST_ANSWERS + 32768;
+
 // A refusal tells nothing of the journal.
+#[tactic(auto, unfolding(crate::specs::Telling::settlement_of))]
 fn sum_up(report: Report, used: usize, begun: bool, length: usize) -> Settlement
     ensures { result ≡ settlement_of report used begun length }
 {
@@ -39,26 +41,28 @@ fn sum_up(report: Report, used: usize, begun: bool, length: usize) -> Settlement
         return Settlement {
             report,
             records: 0,
-            dropped: 0,
+            dropped: Dropped::Nothing.number(),
             length,
         };
     }
     Settlement {
         report,
         records: used / RECORD_BYTES,
-        dropped: dropped_by(used, report.kept, begun),
+        dropped: dropped_by(used, report.kept, begun).number(),
         length,
     }
 }
 
 // How many answers a text has room for.
+#[tactic(auto, unfolding(crate::specs::Settled::answer_room))]
 fn answer_room(text: &[u8]) -> usize
     ensures { result ≡ answer_room text.now }
 {
     if TEXT_BYTES <= text.len() {
-        return MOST_ANSWERS;
+        MOST_ANSWERS
+    } else {
+        0
     }
-    0
 }
 
 // Prints what a run found, where the text is long enough, and returns the length of what is printed.
@@ -93,15 +97,9 @@ pub fn settle(
 {
     let begun = is_begun(journal, used);
     let room = answer_room(text);
-    let mut answers = [0u8; MOST_ANSWERS];
-    let report = run::run(file, journal, used, limit, &mut answers[..room]);
-    let length = show(
-        file,
-        asked,
-        report.code,
-        report.place,
-        &answers[..room],
-        text,
-    );
+    let mut row = [0u8; MOST_ANSWERS];
+    let answers = &mut row[..room];
+    let report = run::run(file, journal, used, limit, answers);
+    let length = show(file, asked, report.code, report.place, answers, text);
     sum_up(report, used, begun, length)
 }

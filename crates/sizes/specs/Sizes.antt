@@ -1,7 +1,6 @@
 -- The codes about the sizes of a call's buffers.
 use Rattle.std.specs.Prelude.{ℕ, ◌*◌, List, [], ◌∷◌, ltb}
-use Rattle.infon.specs.declared.Verdict.{Verdict}
-use Rattle.infon.specs.Codes.{when}
+use Rattle.infon.specs.Codes.{when, Verdict}
 use Rattle.infon.specs.Journal.{record_bytes}
 
 -- codes 6 to 8, by the sizes that they compare: the journal's, L, the used length, the answers' and the number of queries

@@ -1,72 +1,58 @@
 -- Where a token ends: the bytes before the first break, and before the first byte that passes any test, counted from the left.
 -- Assumes nothing.
-use Prim.Native.Nat.{ℕ, suc, ◌+◌, ◌-◌, ◌≤◌, ◌<◌}
-use native.Mathlib.Numerals.{add-one}
+use Prim.Native.Nat.{ℕ, ◌+◌, ◌-◌, ◌<◌, ◌≤◌}
 use native.Mathlib.Omega.{arith}
-use mathlib.Core.Path.{◌≡◌, sym, ◌∙◌, ap}
-use mathlib.Core.Logic.{◌⊎◌, inl, inr}
-use mathlib.Core.Bool.{Bool, true, false, cond}
-use mathlib.Core.List.{List, [], ◌∷◌, cons≢nil}
+use mathlib.Core.Path.{◌≡◌, refl, sym, ◌∙◌, ap}
+use mathlib.Core.Bool.{Bool, true, false, not}
+use mathlib.Core.List.{List, ◌∷◌}
 use lib.ListN.{length, get_or, take, drop, drop_of_length-le, length-drop}
-use lib.Seq.{drop-cons, length-take-le}
-use lib.Dec.{eqb}
-use borrow.Author.Tests.{ne_eqb}
-use Rattle.infon.specs.Bytes.{space, line_feed}
-use Rattle.infon.proofs.Rows.{decided}
-use Rattle.spelling.specs.Token.{is_break, until_first, word_length, word_at}
-
-pub break_space : (b : ℕ) → b ≡ 32 → true ≡ is_break b
-unfolding is_break space
-break_space b e = rw e
-
-pub break_feed : (b : ℕ) → (b ≡ 32 → ⊥) → eqb b 10 ≡ is_break b
-unfolding is_break space line_feed
-break_feed b e = rw (ne_eqb b 32 e)
+use lib.Seq.{take_all, get_or-drop}
+use native.Mathlib.Nat.{add-zero}
+use Rattle.std.proofs.lemmas.List.Sums.{prefix_len-le-length, prefix_len_stops}
+use Rattle.std.proofs.lemmas.List.Folds.{length-prefix_len}
+use Rattle.std.specs.Prelude.{None, take_while}
+use Rattle.std.specs.List.{position_or_len}
+use Rattle.infon.specs.Bytes.{bytes, alike, every}
+use Rattle.infon.specs.Formula.{is_name}
+use Rattle.spelling.specs.Token.{is_break, word_length, word_at}
+use Rattle.spelling.specs.Parsing.{parsed_at}
 
 -- The bytes before the first that passes a test.
 module _ (test : ℕ → Bool) where
-  module _ (text : List ℕ) (i : ℕ) where
-    until_cons : i < length text → until_first test (drop i text) ≡ cond (test (get_or text i 0)) 0 (suc (until_first test (drop (suc i) text)))
-    unfolding until_first
-    until_cons h = rw (drop-cons text i 0 h)
-
-    pub until_stop : i < length text → test (get_or text i 0) ≡ true → until_first test (drop i text) ≡ 0
-    until_stop h e = until_cons h ∙ rw e
-
-    pub until_turn : i < length text → test (get_or text i 0) ≡ false → until_first test (drop i text) ≡ 1 + until_first test (drop (i + 1) text)
-    until_turn h e = rw (add-one i) (until_cons h ∙ rw e (omega arith))
-
-    pub until_over : length text ≤ i → until_first test (drop i text) ≡ 0
-    unfolding until_first
-    until_over h = rw (drop_of_length-le text h)
-
   -- they are no more than the text has,
-  pub until_least : (s : List ℕ) → until_first test s ≤ length s
-  unfolding until_first
-  until_least [] = omega arith
-  until_least (b ∷ s) =
-      let rest = until_least s in
-      elim (test b) as (λ t. cond t 0 (suc (until_first test s)) ≤ suc (length s)) [ true ↦ omega arith | false ↦ omega arith ]
-
-  pub until_fits : (text : List ℕ) (at : ℕ) → at ≤ length text → at + until_first test (drop at text) ≤ length text
-  until_fits text at h = omega (arith, until_least (drop at text), length-drop at text)
+  pub until_fits : (text : List ℕ) (at : ℕ) → at ≤ length text → at + position_or_len test (drop at text) ≤ length text
+  until_fits text at h = omega (arith, prefix_len-le-length (λ b. not (test b)) (drop at text), length-drop at text)
 
   -- and the byte behind them passes
-  pub until_passes : (s : List ℕ) (b : ℕ) (rest : List ℕ) → drop (until_first test s) s ≡ b ∷ rest → test b ≡ true
-  unfolding until_first
-  until_passes [] b rest h = absurd (cons≢nil (sym h))
-  until_passes (a ∷ s) b rest h = by_byte (until_passes s b rest) (decided (test a)) h
+  pub until_passes : (s : List ℕ) (b : ℕ) (rest : List ℕ) → drop (position_or_len test s) s ≡ b ∷ rest → test b ≡ true
+  until_passes s b rest h =
+      let n = position_or_len test s in
+      let within : n < length s = omega (arith, ap length h, length-drop n s) in
+      let here : get_or s n 0 ≡ b = ap (λ j. get_or s j 0) (sym (add-zero n)) ∙ sym (get_or-drop n s 0 0) ∙ ap (λ t. get_or t 0 0) h in
+      ap test (sym here) ∙ passed (test (get_or s n 0)) (prefix_len_stops (λ c. not (test c)) s 0 within)
     where
-      by_byte : (drop (until_first test s) s ≡ b ∷ rest → test b ≡ true) → (test a ≡ true) ⊎ (test a ≡ false)
-          → drop (cond (test a) 0 (suc (until_first test s))) (a ∷ s) ≡ b ∷ rest → test b ≡ true
-      by_byte later (inl e) k = let same : a ∷ s ≡ b ∷ rest = rw e at k in ap test (sym (ap (λ t. get_or t 0 0) same)) ∙ e
-      by_byte later (inr e) k = later (rw e at k)
+      passed : (t : Bool) → not t ≡ false → t ≡ true
+      passed true e = refl
+      passed false e = sym e
 
 module _ (text : List ℕ) (at : ℕ) where
   pub word_at_length : length (word_at text at) ≡ word_length (drop at text)
   unfolding word_at
-  word_at_length = length-take-le (word_length (drop at text)) (drop at text) (until_least is_break (drop at text))
+  word_at_length = length-prefix_len (λ b. not (is_break b)) (drop at text)
 
-  pub word_part : (end : ℕ) → end ≡ at + word_length (drop at text) → take (end - at) (drop at text) ≡ word_at text at
-  unfolding word_at
-  word_part end e = let size : end - at ≡ word_length (drop at text) = omega arith in rw size
+  -- what stands before the first break in a part that goes to the text's end
+  module _ (fits : at ≤ length text) (n : ℕ) (e : n ≡ length (take_while (λ b. not (is_break b)) (take (length text - at) (drop at text)))) where
+    whole : take (length text - at) (drop at text) ≡ drop at text
+    whole = take_all (length text - at) (drop at text) (omega (arith, length-drop at text))
+
+    counted : n ≡ word_length (drop at text)
+    counted = e ∙ ap (λ s. length (take_while (λ b. not (is_break b)) s)) whole ∙ length-prefix_len (λ b. not (is_break b)) (drop at text)
+
+    pub part_read : take n (take (length text - at) (drop at text)) ≡ word_at text at
+    unfolding word_at
+    part_read = rw (whole, counted)
+
+  -- behind the text's end stands nothing
+  pub parsed_none : length text ≤ at → parsed_at text at ≡ None
+  unfolding parsed_at word_at alike bytes is_name every
+  parsed_none h = rw (drop_of_length-le text h)

@@ -9,44 +9,44 @@ use native.Mathlib.Omega.{arith}
 use mathlib.Core.Path.{◌≡◌, refl, sym, ◌∙◌, ap, subst}
 use mathlib.Core.Logic.{⊎_elim, ◌≢◌}
 use mathlib.Core.Bool.{Bool, true, false, cond}
-use mathlib.Core.Option.{Option, none, some}
-use mathlib.Core.List.{List, [], ◌∷◌, ◌++◌, append-nil, append_assoc, cons≢nil, flat_map}
+use Rattle.std.proofs.lemmas.Bool.{and_parts, and_from, cases_Bool}
+use Rattle.std.specs.Prelude.{Option, None, Some, option_and_then}
+use mathlib.Core.List.{List, [], ◌∷◌, ◌++◌, append-nil, append_assoc, cons≢nil}
 use lib.ListN.{length, get_or, drop, drop_of_length-le, get_or-eq_default}
 use lib.Seq.{drop-cons, get_or-drop}
 use lib.Dec.{eqb}
 use borrow.Author.Tests.{eqb-true, eqb-false, eq-eqb, ne_eqb}
 use Rattle.infon.specs.Bytes.{bytes, space, alike, every}
-use Rattle.infon.specs.Formula.{Told, said, put, Formula, True, name, and, implies, quoted, is_name, letter_of, joined, tokens, join_two, quote, take_word, take_next, read_words, only_one, formula_of}
-use Rattle.infon.specs.Policy.{is_some}
-use Rattle.infon.proofs.Rows.{and_true, true_and, decided, alike_eq}
+use Rattle.infon.specs.Formula.{Told, said, put, Formula, True, name, and, implies, quoted, is_name, letter_of, joined, tokens, join_two, quote, take_word, read_words, only_one, formula_of}
+use Rattle.std.specs.Prelude.{is_some}
+use Rattle.std.proofs.lemmas.Option.{same_Some, none-some}
+use Rattle.infon.proofs.Rows.{alike_eq}
 use Rattle.infon.proofs.Words.{lacks, tokens_word, tokens_last, tokens_joined, tokens_nonempty}
 use Rattle.infon.proofs.Readable.{letter_length, name_positive, take_name, take_letter, words_read}
 use Rattle.spelling.specs.declared.Parsed.{Parsed}
-use Rattle.spelling.specs.declared.Parsed.TheVariants.{True as aTrue, Name as aName, And as anAnd, Implies as anImplies, Quoted as aQuoted, Bad}
-use Rattle.spelling.specs.declared.Cursor.{Cursor}
-use Rattle.spelling.specs.declared.Onward.TheVariants.{Behind, Stuck}
+use Rattle.spelling.specs.declared.Parsed.TheVariants as Read
 use Rattle.spelling.specs.Token.{is_break, word_at}
-use Rattle.spelling.specs.Parsing.{quotation_at, parsed_at, gone_on}
+use Rattle.spelling.specs.Parsing.{quotation_at, parsed_at, behind_own, still_needed}
 use Rattle.spelling.proofs.Breaks.{until_fits, word_at_length}
 use Rattle.spelling.proofs.Tokenised.{token_lacks, token_stands, token_stops, break_cases, feed_no_formula, first_token}
 
 -- so many formulas were read
 unfoldable pub matches : ℕ → Option (List Formula) → Bool
-matches n none = false
-matches n (some waiting) = eqb (length waiting) n
+matches n None = false
+matches n (Some waiting) = eqb (length waiting) n
 
 same_test : (a b c d : ℕ) → (a ≡ b → c ≡ d) → (c ≡ d → a ≡ b) → eqb a b ≡ eqb c d
 same_test a b c d there back =
     ⊎_elim (λ e. e ∙ sym (eq-eqb c d (there (eqb-true a b e))))
     (λ e. e ∙ sym (ne_eqb c d (λ k. absurd (omega (arith, eqb-false a b e (back k))))))
-    (decided (eqb a b))
+    (cases_Bool (eqb a b))
 
 one_read : (o : Option (List Formula)) → is_some (only_one o) ≡ matches 1 o
-unfolding is_some only_one matches
-one_read none = refl
-one_read (some []) = refl
-one_read (some (x ∷ [])) = refl
-one_read (some (x ∷ (y ∷ waiting))) = sym (ne_eqb (suc (suc (length waiting))) 1 (omega arith))
+unfolding only_one matches
+one_read None = refl
+one_read (Some []) = refl
+one_read (Some (x ∷ [])) = refl
+one_read (Some (x ∷ (y ∷ waiting))) = sym (ne_eqb (suc (suc (length waiting))) 1 (omega arith))
 
 pub formula_counted : (text : List ℕ) → is_some (formula_of text) ≡ matches 1 (read_words (tokens text))
 unfolding formula_of
@@ -57,24 +57,24 @@ abbrev Effect : List (List ℕ) → ℕ → ℕ → Type 0
 Effect own needed left = (ws : List (List ℕ)) → matches needed (read_words (own ++ ws)) ≡ matches left (read_words ws)
 
 module _ (n : ℕ) (some-needed : 0 < n) where
-  leaf_takes : (word : List ℕ) (x : Formula) → ((waiting : List Formula) → take_word word waiting ≡ some (x ∷ waiting))
-      → (o : Option (List Formula)) → matches n (take_next word o) ≡ matches (n - 1) o
-  unfolding take_next matches
-  leaf_takes word x takes none = refl
-  leaf_takes word x takes (some waiting) =
+  leaf_takes : (word : List ℕ) (x : Formula) → ((waiting : List Formula) → take_word word waiting ≡ Some (x ∷ waiting))
+      → (o : Option (List Formula)) → matches n (option_and_then (take_word word) o) ≡ matches (n - 1) o
+  unfolding matches
+  leaf_takes word x takes None = refl
+  leaf_takes word x takes (Some waiting) =
       rw (takes waiting) (same_test (suc (length waiting)) n (length waiting) (n - 1) (λ e. omega arith) (λ e. omega arith))
 
-  leaf_effect : (word : List ℕ) (x : Formula) → ((waiting : List Formula) → take_word word waiting ≡ some (x ∷ waiting)) → Effect (word ∷ []) n (n - 1)
+  leaf_effect : (word : List ℕ) (x : Formula) → ((waiting : List Formula) → take_word word waiting ≡ Some (x ∷ waiting)) → Effect (word ∷ []) n (n - 1)
   unfolding read_words
   leaf_effect word x takes ws = leaf_takes word x takes (read_words ws)
 
   two_takes : (word : List ℕ) (operator : Formula → Formula → Formula) → ((waiting : List Formula) → take_word word waiting ≡ join_two operator waiting)
-      → (o : Option (List Formula)) → matches n (take_next word o) ≡ matches (n + 1) o
-  unfolding take_next matches join_two
-  two_takes word operator takes none = refl
-  two_takes word operator takes (some []) = rw (takes []) (sym (ne_eqb 0 (n + 1) (omega arith)))
-  two_takes word operator takes (some (x ∷ [])) = rw (takes (x ∷ [])) (sym (ne_eqb 1 (n + 1) (omega arith)))
-  two_takes word operator takes (some (x ∷ (y ∷ waiting))) =
+      → (o : Option (List Formula)) → matches n (option_and_then (take_word word) o) ≡ matches (n + 1) o
+  unfolding matches join_two
+  two_takes word operator takes None = refl
+  two_takes word operator takes (Some []) = rw (takes []) (sym (ne_eqb 0 (n + 1) (omega arith)))
+  two_takes word operator takes (Some (x ∷ [])) = rw (takes (x ∷ [])) (sym (ne_eqb 1 (n + 1) (omega arith)))
+  two_takes word operator takes (Some (x ∷ (y ∷ waiting))) =
       rw (takes (x ∷ (y ∷ waiting)))
       (same_test (suc (length waiting)) n (suc (suc (length waiting))) (n + 1) (λ e. omega arith) (λ e. omega arith))
 
@@ -84,47 +84,47 @@ module _ (n : ℕ) (some-needed : 0 < n) where
   two_effect word operator takes ws = two_takes word operator takes (read_words ws)
 
   quote_takes : (told : Told) (a : List ℕ) → is_name a ≡ true
-      → (o : Option (List Formula)) → matches n (take_next (letter_of told) (take_next a o)) ≡ matches n o
-  unfolding take_next matches quote
-  quote_takes told a named none = refl
-  quote_takes told a named (some []) = rw (take_name a [] named, take_letter told (name a ∷ [])) (sym (ne_eqb 0 n (omega arith)))
-  quote_takes told a named (some (x ∷ waiting)) = rw (take_name a (x ∷ waiting) named, take_letter told (name a ∷ (x ∷ waiting)))
+      → (o : Option (List Formula)) → matches n (option_and_then (take_word (letter_of told)) (option_and_then (take_word a) o)) ≡ matches n o
+  unfolding matches quote
+  quote_takes told a named None = refl
+  quote_takes told a named (Some []) = rw (take_name a [] named, take_letter told (name a ∷ [])) (sym (ne_eqb 0 n (omega arith)))
+  quote_takes told a named (Some (x ∷ waiting)) = rw (take_name a (x ∷ waiting) named, take_letter told (name a ∷ (x ∷ waiting)))
 
   quote_effect : (told : Told) (a : List ℕ) → is_name a ≡ true → Effect (letter_of told ∷ (a ∷ [])) n n
   unfolding read_words
   quote_effect told a named ws = quote_takes told a named (read_words ws)
 
 -- Where no formula begins, none is read.
-bad_takes : (word : List ℕ) → ((waiting : List Formula) → take_word word waiting ≡ none) → (n : ℕ) (o : Option (List Formula))
-    → matches n (take_next word o) ≡ false
-unfolding take_next matches
-bad_takes word takes n none = refl
-bad_takes word takes n (some waiting) = rw (takes waiting)
+bad_takes : (word : List ℕ) → ((waiting : List Formula) → take_word word waiting ≡ None) → (n : ℕ) (o : Option (List Formula))
+    → matches n (option_and_then (take_word word) o) ≡ false
+unfolding matches
+bad_takes word takes n None = refl
+bad_takes word takes n (Some waiting) = rw (takes waiting)
 
-bad_word : (word : List ℕ) → ((waiting : List Formula) → take_word word waiting ≡ none) → (n : ℕ) (ws : List (List ℕ))
+bad_word : (word : List ℕ) → ((waiting : List Formula) → take_word word waiting ≡ None) → (n : ℕ) (ws : List (List ℕ))
     → matches n (read_words (word ∷ ws)) ≡ false
 unfolding read_words
 bad_word word takes n ws = bad_takes word takes n (read_words ws)
 
 bare_letter : (told : Told) (n : ℕ) → matches n (read_words (letter_of told ∷ [])) ≡ false
-unfolding read_words take_next matches quote
+unfolding read_words matches quote
 bare_letter told n = rw (take_letter told [])
 
-none_either : (f : Option (List Formula) → Option (List Formula)) (t : Bool) {x y : Option (List Formula)} → f x ≡ none → f y ≡ none → f (cond t x y) ≡ none
+none_either : (f : Option (List Formula) → Option (List Formula)) (t : Bool) {x y : Option (List Formula)} → f x ≡ None → f y ≡ None → f (cond t x y) ≡ None
 none_either f true h k = h
 none_either f false h k = k
 
 -- a quotation's letter takes nothing but a name's word
 module _ (told : Told) where
-  no_two : (operator : Formula → Formula → Formula) → ((x y : Formula) (waiting : List Formula) → quote told (operator x y ∷ waiting) ≡ none)
-      → (waiting : List Formula) → take_next (letter_of told) (join_two operator waiting) ≡ none
-  unfolding take_next join_two
+  no_two : (operator : Formula → Formula → Formula) → ((x y : Formula) (waiting : List Formula) → quote told (operator x y ∷ waiting) ≡ None)
+      → (waiting : List Formula) → option_and_then (take_word (letter_of told)) (join_two operator waiting) ≡ None
+  unfolding join_two
   no_two operator refuses [] = refl
   no_two operator refuses (x ∷ []) = refl
   no_two operator refuses (x ∷ (y ∷ waiting)) = take_letter told (operator x y ∷ waiting) ∙ refuses x y waiting
 
-  no_quoted : (other : Told) (waiting : List Formula) → take_next (letter_of told) (quote other waiting) ≡ none
-  unfolding take_next quote
+  no_quoted : (other : Told) (waiting : List Formula) → option_and_then (take_word (letter_of told)) (quote other waiting) ≡ None
+  unfolding quote
   no_quoted other [] = refl
   no_quoted other (name a ∷ []) = refl
   no_quoted other (name a ∷ (x ∷ waiting)) = take_letter told _
@@ -133,11 +133,11 @@ module _ (told : Told) where
   no_quoted other (implies x y ∷ waiting) = refl
   no_quoted other (quoted q x ∷ waiting) = refl
 
-  no_name : (a : List ℕ) → is_name a ≡ false → (o : Option (List Formula)) → take_next (letter_of told) (take_next a o) ≡ none
-  unfolding take_next take_word quote
-  no_name a h none = refl
-  no_name a h (some waiting) =
-      let f = take_next (letter_of told) in
+  no_name : (a : List ℕ) → is_name a ≡ false → (o : Option (List Formula)) → option_and_then (take_word (letter_of told)) (option_and_then (take_word a) o) ≡ None
+  unfolding take_word quote
+  no_name a h None = refl
+  no_name a h (Some waiting) =
+      let f = option_and_then (take_word (letter_of told)) in
       none_either f (alike a (bytes "T")) (take_letter told (True ∷ waiting))
       (none_either f (alike a (bytes "+")) (no_two and (λ x y w. refl) waiting)
       (none_either f (alike a (bytes ">")) (no_two implies (λ x y w. refl) waiting)
@@ -150,39 +150,43 @@ module _ (told : Told) where
 
 -- every word that is read leaves a formula
 none_left : (row : List (List ℕ)) (o : Option (List Formula)) → read_words row ≡ o → row ≢ [] → matches 0 o ≡ false
-unfolding matches flat_map
-none_left row none e nonempty = refl
-none_left row (some []) e nonempty = absurd (nonempty (sym (words_read row [] e).0))
-none_left row (some (x ∷ waiting)) e nonempty = ne_eqb (suc (length waiting)) 0 (omega arith)
+unfolding matches
+none_left row None e nonempty = refl
+none_left row (Some []) e nonempty = absurd (nonempty (sym (words_read row [] e).0))
+none_left row (Some (x ∷ waiting)) e nonempty = ne_eqb (suc (length waiting)) 0 (omega arith)
 
 pub too_early : (n : ℕ) (s : List ℕ) → n ≡ 0 → matches n (read_words (tokens s)) ≡ false
 too_early n s e = ap (λ k. matches k (read_words (tokens s))) e ∙ none_left (tokens s) (read_words (tokens s)) refl (tokens_nonempty s)
 
--- The token and the tests that make a node of it.
-data Parses (text : List ℕ) (at : ℕ) : Parsed → Type 0 where
-  is_true : word_at text at ≡ bytes "T" → Parses text at aTrue
-  is_name_lem : is_name (word_at text at) ≡ true → Parses text at (aName (at + length (word_at text at)))
-  is_and : word_at text at ≡ bytes "+" → Parses text at anAnd
-  is_implies : word_at text at ≡ bytes ">" → Parses text at anImplies
-  is_quoted : (told : Told) (s : Bool) → word_at text at ≡ letter_of told → get_or text (at + 1) 0 ≡ space → is_name (word_at text (at + 1 + 1)) ≡ true
-      → Parses text at (aQuoted s (at + 1 + 1) (at + 1 + 1 + length (word_at text (at + 1 + 1))))
-  no_space : (told : Told) → word_at text at ≡ letter_of told → (get_or text (at + 1) 0 ≡ space → ⊥) → Parses text at Bad
-  no_principal : (told : Told) → word_at text at ≡ letter_of told → get_or text (at + 1) 0 ≡ space → is_name (word_at text (at + 1 + 1)) ≡ false
-      → Parses text at Bad
-  no_word : ((waiting : List Formula) → take_word (word_at text at) waiting ≡ none) → Parses text at Bad
+abbrev pub is_said : Told → Bool
+is_said said = true
+is_said put = false
 
-pick : (P : Parsed → Type 0) (t : Bool) {x y : Parsed} → (t ≡ true → P x) → (t ≡ false → P y) → P (cond t x y)
+-- The token and the tests that make a node of it.
+data Parses (text : List ℕ) (at : ℕ) : Option Parsed → Type 0 where
+  is_true : word_at text at ≡ bytes "T" → Parses text at (Some Read.True)
+  is_name_lem : is_name (word_at text at) ≡ true → Parses text at (Some (Read.Name (at + length (word_at text at))))
+  is_and : word_at text at ≡ bytes "+" → Parses text at (Some Read.And)
+  is_implies : word_at text at ≡ bytes ">" → Parses text at (Some Read.Implies)
+  is_quoted : (told : Told) → word_at text at ≡ letter_of told → get_or text (at + 1) 0 ≡ space → is_name (word_at text (at + 1 + 1)) ≡ true
+      → Parses text at (Some (Read.Quoted (is_said told) (at + 1 + 1) (at + 1 + 1 + length (word_at text (at + 1 + 1)))))
+  no_space : (told : Told) → word_at text at ≡ letter_of told → (get_or text (at + 1) 0 ≡ space → ⊥) → Parses text at None
+  no_principal : (told : Told) → word_at text at ≡ letter_of told → get_or text (at + 1) 0 ≡ space → is_name (word_at text (at + 1 + 1)) ≡ false
+      → Parses text at None
+  no_word : ((waiting : List Formula) → take_word (word_at text at) waiting ≡ None) → Parses text at None
+
+pick : (P : Option Parsed → Type 0) (t : Bool) {x y : Option Parsed} → (t ≡ true → P x) → (t ≡ false → P y) → P (cond t x y)
 pick P true first second = first refl
 pick P false first second = second refl
 
 module _ (text : List ℕ) (at : ℕ) where
-  quotes : (told : Told) (s : Bool) → word_at text at ≡ letter_of told → Parses text at (quotation_at s text (at + 1))
+  quotes : (told : Told) → word_at text at ≡ letter_of told → Parses text at (quotation_at (is_said told) text (at + 1))
   unfolding quotation_at
-  quotes told s e =
+  quotes told e =
       pick (Parses text at) (eqb (get_or text (at + 1) 0) space)
       (λ gap.
       let here = eqb-true (get_or text (at + 1) 0) space gap in
-      pick (Parses text at) (is_name (word_at text (at + 1 + 1))) (is_quoted told s e here) (no_principal told e here))
+      pick (Parses text at) (is_name (word_at text (at + 1 + 1))) (is_quoted told e here) (no_principal told e here))
       (λ gap. no_space told e (eqb-false (get_or text (at + 1) 0) space gap))
 
   parses : Parses text at (parsed_at text at)
@@ -192,8 +196,8 @@ module _ (text : List ℕ) (at : ℕ) where
       pick (Parses text at) (alike w (bytes "T")) (λ e. is_true (alike_eq w (bytes "T") e))
       λ a. pick (Parses text at) (alike w (bytes "+")) (λ e. is_and (alike_eq w (bytes "+") e))
       λ b. pick (Parses text at) (alike w (bytes ">")) (λ e. is_implies (alike_eq w (bytes ">") e))
-      λ c. pick (Parses text at) (alike w (bytes "S")) (λ e. quotes said true (alike_eq w (bytes "S") e))
-      λ d. pick (Parses text at) (alike w (bytes "P")) (λ e. quotes put false (alike_eq w (bytes "P") e))
+      λ c. pick (Parses text at) (alike w (bytes "S")) (λ e. quotes said (alike_eq w (bytes "S") e))
+      λ d. pick (Parses text at) (alike w (bytes "P")) (λ e. quotes put (alike_eq w (bytes "P") e))
       λ f. pick (Parses text at) (is_name w) is_name_lem (λ g. no_word (λ waiting. rw (a, b, c, d, f, g)))
 
 -- One node was taken: its own words stand from one place to the next, at a break or the text's end, and the count went on.
@@ -213,9 +217,9 @@ tokens_more : (own : List (List ℕ)) (rest : List ℕ) → own ≢ [] → every
     → tokens (joined own ++ (space ∷ rest)) ≡ own ++ tokens rest
 unfolding joined every
 tokens_more [] rest nonempty h = absurd (nonempty refl)
-tokens_more (word ∷ []) rest nonempty h = tokens_word word rest (and_true (lacks space word) true h).0
+tokens_more (word ∷ []) rest nonempty h = tokens_word word rest (and_parts (lacks space word) true h).0
 tokens_more (word ∷ (next ∷ own)) rest nonempty h =
-    let both = and_true (lacks space word) (every (lacks space) (next ∷ own)) h in
+    let both = and_parts (lacks space word) (every (lacks space) (next ∷ own)) h in
     rw (append_assoc word (space ∷ joined (next ∷ own)) (space ∷ rest))
     (tokens_word word (joined (next ∷ own) ++ (space ∷ rest)) both.0 ∙ ap (λ ws. word ∷ ws) (tokens_more (next ∷ own) rest cons≢nil both.1))
 
@@ -254,7 +258,7 @@ module _ (text : List ℕ) (at needed : ℕ) (fits : at ≤ length text) (some-n
       record {
         own = word_at text at ∷ [];
         some_own = cons≢nil;
-        spaceless = true_and (token_lacks text at) refl;
+        spaceless = and_from _ _ (token_lacks text at) refl;
         stands = rw e (token_stands text at);
         stops = rw e (token_stops text at);
         forward = omega arith;
@@ -290,7 +294,7 @@ module _ (text : List ℕ) (at needed : ℕ) (fits : at ≤ length text) (some-n
         record {
           own = letter_of told ∷ (principal ∷ []);
           some_own = cons≢nil;
-          spaceless = true_and (subst (λ w. lacks space w ≡ true) e (token_lacks text at)) (true_and (token_lacks text (at + 1 + 1)) refl);
+          spaceless = and_from _ _ (subst (λ w. lacks space w ≡ true) e (token_lacks text at)) (and_from _ _ (token_lacks text (at + 1 + 1)) refl);
           stands =
               letter_stands ∙ ap (λ r. letter_of told ++ (space ∷ r)) (token_stands text (at + 1 + 1))
               ∙ sym (append_assoc (letter_of told) (space ∷ principal) (drop (at + 1 + 1 + length principal) text));
@@ -301,38 +305,40 @@ module _ (text : List ℕ) (at needed : ℕ) (fits : at ≤ length text) (some-n
           effect = quote_effect needed some-needed told principal named;
         }
 
-  goes_behind : (c d : Cursor) → Behind c ≡ Behind d → Taken text at needed c.at c.needed → Taken text at needed d.at d.needed
-  goes_behind c d h t = let same : c ≡ d = cc in subst (λ (e : Cursor). Taken text at needed e.at e.needed) same t
+  goes_behind : (p q : Parsed) → Some p ≡ Some q → Taken text at needed (behind_own at p) (still_needed p needed)
+      → Taken text at needed (behind_own at q) (still_needed q needed)
+  goes_behind p q h = subst (λ (r : Parsed). Taken text at needed (behind_own at r) (still_needed r needed)) (same_Some p q h)
 
-  not_stuck : (d : Cursor) → Stuck ≡ Behind d → Taken text at needed d.at d.needed
-  not_stuck d h = let z : ◌≡◌ {A = ℕ} 0 1 = cc in absurd (omega arith)
-
-  taken_by : (p : Parsed) (d : Cursor) → Parses text at p → gone_on (record { at = at; needed = needed }) p ≡ Behind d → Taken text at needed d.at d.needed
-  unfolding gone_on bytes take_word alike
-  taken_by p d (is_true e) h =
-      goes_behind _ d h
+  taken_by : (o : Option Parsed) (p : Parsed) → Parses text at o → o ≡ Some p → Taken text at needed (behind_own at p) (still_needed p needed)
+  unfolding bytes take_word alike
+  taken_by o p (is_true e) h =
+      goes_behind _ p h
       (letter_taken (bytes "T") (needed - 1) refl e (omega arith) (leaf_effect needed some-needed (bytes "T") True (λ waiting. refl)))
-  taken_by p d (is_name_lem named) h =
-      goes_behind _ d h
+  taken_by o p (is_name_lem named) h =
+      goes_behind _ p h
       (word_taken (at + length (word_at text at)) (needed - 1) refl (name_positive (word_at text at) named) (omega arith)
       (leaf_effect needed some-needed (word_at text at) (name (word_at text at)) (λ waiting. take_name (word_at text at) waiting named)))
-  taken_by p d (is_and e) h =
-      goes_behind _ d h
+  taken_by o p (is_and e) h =
+      goes_behind _ p h
       (letter_taken (bytes "+") (needed + 1) refl e (omega arith) (two_effect needed some-needed (bytes "+") and (λ waiting. refl)))
-  taken_by p d (is_implies e) h =
-      goes_behind _ d h
+  taken_by o p (is_implies e) h =
+      goes_behind _ p h
       (letter_taken (bytes ">") (needed + 1) refl e (omega arith) (two_effect needed some-needed (bytes ">") implies (λ waiting. refl)))
-  taken_by p d (is_quoted told s e gap named) h = goes_behind _ d h (quoted_taken told e gap named)
-  taken_by p d (no_space told e gap) h = not_stuck d h
-  taken_by p d (no_principal told e gap named) h = not_stuck d h
-  taken_by p d (no_word takes) h = not_stuck d h
+  taken_by o p (is_quoted told e gap named) h =
+      goes_behind _ p h
+      (quoted_taken told e gap named)
+  taken_by o p (no_space told e gap) h = absurd (none-some p h)
+  taken_by o p (no_principal told e gap named) h = absurd (none-some p h)
+  taken_by o p (no_word takes) h = absurd (none-some p h)
 
-  pub node_taken : (d : Cursor) → gone_on (record { at = at; needed = needed }) (parsed_at text at) ≡ Behind d → Taken text at needed d.at d.needed
-  node_taken d h = taken_by (parsed_at text at) d (parses text at) h
+  pub node_taken : (o : Option Parsed) (p : Parsed) (end left : ℕ) → o ≡ parsed_at text at → o ≡ Some p → end ≡ behind_own at p
+      → left ≡ still_needed p needed → Taken text at needed end left
+  node_taken o p end left parsed h there e =
+      rw (there, e) (taken_by (parsed_at text at) p (parses text at) (sym parsed ∙ h))
 
   -- Where the reader is stuck, the text is no formula.
   module _ (count : is_some (formula_of text) ≡ matches needed (read_words (tokens (drop at text)))) where
-    stuck_wordless : ((waiting : List Formula) → take_word (word_at text at) waiting ≡ none) → is_some (formula_of text) ≡ false
+    stuck_wordless : ((waiting : List Formula) → take_word (word_at text at) waiting ≡ None) → is_some (formula_of text) ≡ false
     stuck_wordless takes =
         ⊎_elim
         (λ found. count ∙ ap (λ ws. matches needed (read_words ws)) found.1 ∙ bad_word (word_at text at) takes needed found.0)
@@ -374,16 +380,15 @@ module _ (text : List ℕ) (at needed : ℕ) (fits : at ≤ length text) (some-n
         (λ no-formula. no-formula)
         (first_token text (at + 1 + 1))
 
-    stuck_by : (p : Parsed) → Parses text at p → gone_on (record { at = at; needed = needed }) p ≡ Stuck → is_some (formula_of text) ≡ false
-    unfolding gone_on
-    stuck_by p (is_true e) h = let z : ◌≡◌ {A = ℕ} 0 1 = cc in absurd (omega arith)
-    stuck_by p (is_name_lem named) h = let z : ◌≡◌ {A = ℕ} 0 1 = cc in absurd (omega arith)
-    stuck_by p (is_and e) h = let z : ◌≡◌ {A = ℕ} 0 1 = cc in absurd (omega arith)
-    stuck_by p (is_implies e) h = let z : ◌≡◌ {A = ℕ} 0 1 = cc in absurd (omega arith)
-    stuck_by p (is_quoted told s e gap named) h = let z : ◌≡◌ {A = ℕ} 0 1 = cc in absurd (omega arith)
-    stuck_by p (no_space told e gap) h = stuck_spaceless told e gap
-    stuck_by p (no_principal told e gap unnamed) h = stuck_nameless told e gap unnamed
-    stuck_by p (no_word takes) h = stuck_wordless takes
+    stuck_by : (o : Option Parsed) → Parses text at o → o ≡ None → is_some (formula_of text) ≡ false
+    stuck_by o (is_true e) h = absurd (none-some _ (sym h))
+    stuck_by o (is_name_lem named) h = absurd (none-some _ (sym h))
+    stuck_by o (is_and e) h = absurd (none-some _ (sym h))
+    stuck_by o (is_implies e) h = absurd (none-some _ (sym h))
+    stuck_by o (is_quoted told e gap named) h = absurd (none-some _ (sym h))
+    stuck_by o (no_space told e gap) h = stuck_spaceless told e gap
+    stuck_by o (no_principal told e gap unnamed) h = stuck_nameless told e gap unnamed
+    stuck_by o (no_word takes) h = stuck_wordless takes
 
-    pub node_stuck : gone_on (record { at = at; needed = needed }) (parsed_at text at) ≡ Stuck → is_some (formula_of text) ≡ false
-    node_stuck h = stuck_by (parsed_at text at) (parses text at) h
+    pub node_stuck : (o : Option Parsed) → o ≡ parsed_at text at → o ≡ None → is_some (formula_of text) ≡ false
+    node_stuck o parsed h = stuck_by (parsed_at text at) (parses text at) (sym parsed ∙ h)

@@ -2,10 +2,12 @@
 -- feed is no formula.
 -- Assumes nothing.
 use Prim.Native.Nat.{ℕ, suc, ◌+◌}
+use native.Mathlib.Numerals.{one-add}
 use mathlib.Core.Path.{◌≡◌, refl, sym, ◌∙◌, ap, subst}
 use mathlib.Core.Logic.{◌⊎◌, inl, inr, ⊎_elim}
 use mathlib.Core.Bool.{true, false, cond, not, true≢false, false≢true}
-use mathlib.Core.Option.{Option, none, some}
+use Rattle.std.proofs.lemmas.Bool.{and_parts, or_cases, or_parts, cases_Bool}
+use Rattle.std.specs.Prelude.{Option, None, Some}
 use mathlib.Core.List.{List, [], ◌∷◌, ◌++◌, append-nil}
 use lib.ListN.{length, take, drop, take-append-drop}
 use lib.Seq.{drop-drop, take-append_seam}
@@ -13,23 +15,22 @@ use lib.Dec.{eqb}
 use borrow.Author.Tests.{eqb-true}
 use Rattle.infon.specs.Bytes.{bytes, space, line_feed, every}
 use Rattle.infon.specs.Formula.{Formula, is_name_byte, is_name, tokens, formula_of}
-use Rattle.infon.specs.Policy.{is_some}
-use Rattle.infon.proofs.Rows.{and_true, or_true, or_false_both, decided}
+use Rattle.std.specs.Prelude.{is_some}
 use Rattle.infon.proofs.Words.{every_append, lacks, lacks_cons, cons_lacks, tokens_word, tokens_last}
 use Rattle.infon.proofs.Readable.{is_word_byte, name_lacks, spelling_read, spelling_lacks_line_feed}
-use Rattle.spelling.specs.Token.{is_break, until_first, word_length, word_at}
+use Rattle.spelling.specs.Token.{is_break, word_length, word_at}
 use Rattle.spelling.proofs.Breaks.{until_passes, word_at_length}
 
 -- The bytes before a break.
 word_lacks : (s : List ℕ) → lacks space (take (word_length s) s) ≡ true
-unfolding until_first is_break lacks every
+unfolding is_break lacks every
 word_lacks [] = refl
-word_lacks (b ∷ s) = by_byte (word_lacks s) (decided (is_break b))
+word_lacks (b ∷ s) = by_byte (word_lacks s) (cases_Bool (is_break b))
   where
     by_byte : lacks space (take (word_length s) s) ≡ true → (is_break b ≡ true) ⊎ (is_break b ≡ false)
-        → lacks space (take (cond (is_break b) 0 (suc (word_length s))) (b ∷ s)) ≡ true
+        → lacks space (take (cond (not (is_break b)) (1 + word_length s) 0) (b ∷ s)) ≡ true
     by_byte rest (inl e) = rw e
-    by_byte rest (inr e) = rw e (cons_lacks space b (take (word_length s) s) (or_false_both (eqb b space) (eqb b line_feed) e).0 rest)
+    by_byte rest (inr e) = rw (e, one-add (word_length s)) (cons_lacks space b (take (word_length s) s) (or_parts (eqb b space) (eqb b line_feed) e).0 rest)
 
 module _ (text : List ℕ) (at : ℕ) where
   pub token_lacks : lacks space (word_at text at) ≡ true
@@ -49,9 +50,8 @@ module _ (text : List ℕ) (at : ℕ) where
 
 -- A text with a line feed in it is no formula.
 formula_lacks : (text : List ℕ) (o : Option Formula) → formula_of text ≡ o → is_some o ≡ true → lacks line_feed text ≡ true
-unfolding is_some
-formula_lacks text none e h = absurd (false≢true h)
-formula_lacks text (some x) e h =
+formula_lacks text None e h = absurd (false≢true h)
+formula_lacks text (Some x) e h =
     let spelled = spelling_read text x e in
     subst (λ t. lacks line_feed t ≡ true) (sym spelled.0) (spelling_lacks_line_feed x spelled.1)
 
@@ -63,16 +63,16 @@ feed_no_formula text k rest h =
     let all = formula_lacks text (formula_of text) refl e in
     let split : text ≡ take k text ++ (line_feed ∷ rest) = sym (take-append-drop k text) ∙ ap (λ t. take k text ++ t) h in
     let both =
-    and_true (lacks line_feed (take k text)) (lacks line_feed (line_feed ∷ rest))
+    and_parts (lacks line_feed (take k text)) (lacks line_feed (line_feed ∷ rest))
     (sym (every_append (λ c. not (eqb c line_feed)) (take k text) (line_feed ∷ rest)) ∙ ap (lacks line_feed) (sym split) ∙ all) in
     absurd (true≢false (lacks_cons line_feed line_feed rest both.1).0))
     (λ e. e)
-    (decided (is_some (formula_of text)))
+    (cases_Bool (is_some (formula_of text)))
 
 -- what a break is
 pub break_cases : (b : ℕ) → is_break b ≡ true → (b ≡ space) ⊎ (b ≡ line_feed)
 unfolding is_break
-break_cases b h = ⊎_elim (λ e. inl (eqb-true b space e)) (λ e. inr (eqb-true b line_feed e)) (or_true (eqb b space) (eqb b line_feed) h)
+break_cases b h = ⊎_elim (λ e. inl (eqb-true b space e)) (λ e. inr (eqb-true b line_feed e)) (or_cases (eqb b space) (eqb b line_feed) h)
 
 -- The token at a place comes first among the tokens from there on, or the text is no formula.
 pub first_token : (text : List ℕ) (at : ℕ)
@@ -96,12 +96,12 @@ first_token text at = by_rest (drop (at + length (word_at text at)) text) refl
 -- a word without a break, with a break behind it, is the token that begins there
 word_cut : (word : List ℕ) (b : ℕ) (rest : List ℕ) → lacks space word ≡ true → lacks line_feed word ≡ true → is_break b ≡ true
     → word_length (word ++ (b ∷ rest)) ≡ length word
-unfolding until_first is_break
+unfolding is_break
 word_cut [] b rest s f e = rw e
 word_cut (a ∷ word) b rest s f e =
     let gap = lacks_cons space a word s in
     let feed = lacks_cons line_feed a word f in
-    rw (gap.0, feed.0) (ap suc (word_cut word b rest gap.1 feed.1 e))
+    rw (gap.0, feed.0, one-add (word_length (word ++ (b ∷ rest)))) (ap suc (word_cut word b rest gap.1 feed.1 e))
 
 pub token_cut : (text : List ℕ) (at : ℕ) (word : List ℕ) (b : ℕ) (rest : List ℕ) → drop at text ≡ word ++ (b ∷ rest)
     → lacks space word ≡ true → lacks line_feed word ≡ true → is_break b ≡ true → word_at text at ≡ word

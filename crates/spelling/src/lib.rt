@@ -2,15 +2,16 @@
 // whether a text is a formula.
 #![tactic(auto)]
 
-ghost use Rattle.std.specs.Prelude.{◌≡◌, [], ◌∷◌, ◌+◌, ◌^◌, ◌≤◌, ◌<◌, length, drop};
-ghost use Rattle.infon.specs.Bytes.{alike};
+ghost use Rattle.std.specs.Prelude.{◌≡◌, ◌+◌, ◌^◌, ◌≤◌, ◌<◌, length, is_some, take_while, not};
+ghost use Rattle.infon.specs.Bytes.{alike, every};
 ghost use Rattle.infon.specs.Formula.{is_name_byte, is_name, formula_of};
-ghost use Rattle.infon.specs.Policy.{is_some};
-ghost use Rattle.spelling.specs.Token.{is_break, word_length, word_at};
-ghost use Rattle.spelling.specs.Parsing.{quotation_at, parsed_at, gone_on};
+ghost use Rattle.spelling.specs.Token.{is_break, word_at};
+ghost use Rattle.spelling.specs.Parsing.{quotation_at, parsed_at, behind_own, kind_parsed, still_needed};
+
+use nodes::Kind;
 
 // What begins at a place, by its token: True, a name that ends before `end`, a conjunction, an implication, or a quotation with
-// its principal's bytes, from `start` to before `end`; `Bad` where no formula begins so.
+// its principal's bytes, from `start` to before `end`.
 #[derive(Clone, Copy)]
 pub enum Parsed {
     True,
@@ -24,204 +25,152 @@ pub enum Parsed {
         start: usize,
         end: usize,
     },
-    Bad,
 }
 
-// How far a reader of a text has come: the place where the next token begins, and how many formulas are still to be read.
-#[derive(Clone, Copy)]
-pub struct Cursor {
-    pub at: usize,
-    pub needed: usize,
-}
-
-// One node further: how many formulas are still to be read behind it, and the place behind its own bytes.
-#[derive(Clone, Copy)]
-pub enum Onward {
-    Behind(Cursor),
-    Stuck,
+impl From<Parsed> for Kind {
+    fn from(node: Parsed) -> Kind
+        ensures { result ≡ kind_parsed node }
+    {
+        match node {
+            Parsed::True => Kind::True,
+            Parsed::Name { .. } => Kind::Name,
+            Parsed::And => Kind::And,
+            Parsed::Implies => Kind::Implies,
+            Parsed::Quoted { said: true, .. } => Kind::Said,
+            Parsed::Quoted { said: false, .. } => Kind::Put,
+        }
+    }
 }
 
 const LONGEST_NAME: usize = 16;
 
 // A character of a name: a to z, 0 to 9 and hyphen.
+#[tactic(auto, unfolding(infon::specs::Formula::is_name_byte))]
 fn is_name_byte(b: u8) -> bool
     ensures { result ≡ is_name_byte b }
 {
-    if b'a' <= b {
-        return b <= b'z';
-    }
-    if b'0' <= b {
-        return b <= b'9';
-    }
-    b == b'-'
+    matches!(b, b'a'..=b'z' | b'0'..=b'9' | b'-')
+}
+
+// Every byte is such a character.
+#[tactic(auto, unfolding(infon::specs::Bytes::every))]
+fn are_name_bytes(word: &[u8]) -> bool
+    ensures { result ≡ every is_name_byte word.now }
+{
+    word.iter().all(|b| is_name_byte(*b))
 }
 
 // A name is 1 to 16 such characters.
+#[tactic(auto, unfolding(infon::specs::Formula::is_name))]
 pub fn is_name(word: &[u8]) -> bool
     ensures { result ≡ is_name word.now }
 {
-    if word.len() == 0 {
-        return false;
-    }
-    if LONGEST_NAME < word.len() {
-        return false;
-    }
-    let mut i = 0;
-    while i < word.len() {
-        if !is_name_byte(word[i]) {
-            return false;
-        }
-        i += 1;
-    }
-    true
+    1 <= word.len() && word.len() <= LONGEST_NAME && are_name_bytes(word)
 }
 
 // Two parts have the same bytes.
+#[tactic(auto, unfolding(infon::specs::Bytes::alike))]
 pub fn are_alike(a: &[u8], b: &[u8]) -> bool
     ensures { result ≡ alike a.now b.now }
 {
-    if a.len() != b.len() {
-        return false;
-    }
-    let mut i = 0;
-    while i < a.len() {
-        if a[i] != b[i] {
-            return false;
-        }
-        i += 1;
-    }
-    true
-}
-
-// A token is this one letter.
-fn is_letter(word: &[u8], letter: u8) -> bool
-    ensures { result ≡ alike word.now (letter ∷ []) }
-{
-    if word.len() != 1 {
-        return false;
-    }
-    word[0] == letter
+    a == b
 }
 
 // A token ends at a space or a line feed.
+#[tactic(auto, unfolding(crate::specs::Token::is_break, infon::specs::Bytes::space, infon::specs::Bytes::line_feed))]
 fn is_break(b: u8) -> bool
     ensures { result ≡ is_break b }
 {
-    if b == b' ' {
-        return true;
-    }
-    b == b'\n'
+    b == b' ' || b == b'\n'
 }
 
-// The place behind the token that begins at `at`.
-pub fn word_end(text: &[u8], at: usize) -> usize
-    requires { at ≤ length text.now }
-    ensures { result ≡ at + word_length (drop at text.now) }
+// How many bytes of a text its first token has.
+fn word_length(text: &[u8]) -> usize
+    ensures { result ≡ length (take_while (λ b. not (is_break b)) text.now) }
 {
-    let mut i = at;
-    while i < text.len() {
-        if is_break(text[i]) {
-            return i;
-        }
-        i += 1;
-    }
-    i
+    text.iter().take_while(|b| !is_break(**b)).count()
 }
 
 // The token that begins at `at`, as the part of the text that it stands on.
+#[tactic(auto, unfolding(crate::specs::Token::word_at))]
 pub fn word(text: &[u8], at: usize) -> &[u8]
     requires { at ≤ length text.now }
     ensures { result.now ≡ word_at text.now at }
 {
-    let end = word_end(text, at);
-    &text[at..end]
+    let rest = &text[at..];
+    &rest[..word_length(rest)]
 }
 
 // A quotation whose letter stands before `space`: a space and its principal's name have to follow.
-fn quotation(text: &[u8], space: usize, said: bool) -> Parsed
+#[tactic(auto, unfolding(crate::specs::Parsing::quotation_at, infon::specs::Bytes::space))]
+fn quotation(text: &[u8], space: usize, said: bool) -> Option<Parsed>
     requires { space ≤ length text.now }
     ensures { result ≡ quotation_at said text.now space }
 {
-    if space == text.len() {
-        return Parsed::Bad;
-    }
-    if text[space] != b' ' {
-        return Parsed::Bad;
+    if space == text.len() || text[space] != b' ' {
+        return None;
     }
     let start = space + 1;
     let principal = word(text, start);
-    if is_name(principal) {
-        Parsed::Quoted {
-            said: said,
-            start: start,
-            end: start + principal.len(),
-        }
+    if !is_name(principal) {
+        return None;
+    }
+    Some(Parsed::Quoted {
+        said,
+        start,
+        end: start + principal.len(),
+    })
+}
+
+// The node that begins at `at`, by its token; none begins behind the text's end. (Compared one by one: tried as a match on
+// literals, from which the proof learns nothing of the bytes.)
+#[tactic(auto, using(crate::proofs::Breaks::parsed_none), unfolding(crate::specs::Parsing::parsed_at, infon::specs::Bytes::bytes))]
+pub fn node_at(text: &[u8], at: usize) -> Option<Parsed>
+    ensures { result ≡ parsed_at text.now at }
+{
+    if text.len() <= at {
+        return None;
+    }
+    let token = word(text, at);
+    if are_alike(token, b"T") {
+        Some(Parsed::True)
+    } else if are_alike(token, b"+") {
+        Some(Parsed::And)
+    } else if are_alike(token, b">") {
+        Some(Parsed::Implies)
+    } else if are_alike(token, b"S") {
+        quotation(text, at + 1, true)
+    } else if are_alike(token, b"P") {
+        quotation(text, at + 1, false)
+    } else if is_name(token) {
+        Some(Parsed::Name {
+            end: at + token.len(),
+        })
     } else {
-        Parsed::Bad
+        None
     }
 }
 
-// The node that begins at `at`.
-pub fn node_at(text: &[u8], at: usize) -> Parsed
-    requires { at ≤ length text.now }
-    ensures { result ≡ parsed_at text.now at }
+// The place behind the own bytes of a node that begins at `at`: its letter, its name, or its letter with the principal.
+pub fn own_end(node: Parsed, at: usize) -> usize
+    requires { at + 1 < 2 ^ 64 }
+    ensures { result ≡ behind_own at node }
 {
-    let token = word(text, at);
-    if is_letter(token, b'T') {
-        return Parsed::True;
-    }
-    if is_letter(token, b'+') {
-        return Parsed::And;
-    }
-    if is_letter(token, b'>') {
-        return Parsed::Implies;
-    }
-    if is_letter(token, b'S') {
-        return quotation(text, at + 1, true);
-    }
-    if is_letter(token, b'P') {
-        return quotation(text, at + 1, false);
-    }
-    if is_name(token) {
-        Parsed::Name {
-            end: at + token.len(),
-        }
-    } else {
-        Parsed::Bad
+    match node {
+        Parsed::True | Parsed::And | Parsed::Implies => at + 1,
+        Parsed::Name { end } | Parsed::Quoted { end, .. } => end,
     }
 }
 
 // True and a name are one formula of those needed; an operator needs one more than it is; a quotation as many as before.
-fn gone_on(from: Cursor, node: Parsed) -> Onward
-    requires unfinished { (0 < from.needed) × (from.needed ≤ from.at + 1) }
-    requires fits { from.at + 2 < 2 ^ 64 }
-    ensures { result ≡ gone_on from node }
+fn still_needed(node: Parsed, needed: usize) -> usize
+    requires { (0 < needed) × (needed + 1 < 2 ^ 64) }
+    ensures { result ≡ still_needed node needed }
 {
-    let at = from.at;
-    let needed = from.needed;
     match node {
-        Parsed::True => Onward::Behind(Cursor {
-            at: at + 1,
-            needed: needed - 1,
-        }),
-        Parsed::Name { end } => Onward::Behind(Cursor {
-            at: end,
-            needed: needed - 1,
-        }),
-        Parsed::And => Onward::Behind(Cursor {
-            at: at + 1,
-            needed: needed + 1,
-        }),
-        Parsed::Implies => Onward::Behind(Cursor {
-            at: at + 1,
-            needed: needed + 1,
-        }),
-        Parsed::Quoted {
-            said: _,
-            start: _,
-            end,
-        } => Onward::Behind(Cursor { at: end, needed }),
-        Parsed::Bad => Onward::Stuck,
+        Parsed::True | Parsed::Name { .. } => needed - 1,
+        Parsed::And | Parsed::Implies => needed + 1,
+        Parsed::Quoted { .. } => needed,
     }
 }
 
@@ -233,13 +182,11 @@ pub fn is_formula(text: &[u8]) -> bool
     let mut at: usize = 0;
     let mut needed: usize = 1;
     while 0 < needed {
-        let node = node_at(text, at);
-        let next = gone_on(Cursor { at, needed }, node);
-        let Onward::Behind(behind) = next else {
+        let Some(node) = node_at(text, at) else {
             return false;
         };
-        needed = behind.needed;
-        let end = behind.at;
+        needed = still_needed(node, needed);
+        let end = own_end(node, at);
         if end == text.len() {
             return needed == 0;
         }

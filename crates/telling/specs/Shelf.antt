@@ -1,21 +1,17 @@
--- What is at hand of an accepted file where its formulas are put into words: its nodes, and the formula table with the list.
+-- What is at hand of an accepted file where its formulas are put into words: beside its nodes: the formula table with the list.
 use Rattle.std.specs.Prelude.{ℕ, ◌≤◌, ◌≡◌, List, length, get_or, set}
 use Rattle.infon.specs.declared.Record.{Record}
 use Rattle.infon.specs.Policy.{entries_of}
 use Rattle.infon.specs.Listing.{list_of}
 use Rattle.infon.specs.Rules.{numbered}
-use Rattle.nodes.specs.Nodes.{count_nodes, nodes_of, NodesHeld}
-use Rattle.formulas.specs.Table.{table_rows, table_cells}
+use Rattle.formulas.specs.Table.{table_rows}
 use Rattle.listing.specs.Outcome.{TableFilled}
 use Rattle.writing.specs.Placed.{PutSome}
 use Rattle.facts.specs.Facts.{fact_line}
 use Rattle.telling.specs.Text.{record_words}
 
-pub record Shelf (file t : List ℕ) (count : ℕ) (table : List ℕ) : Type 0 where
-  pub held : NodesHeld file t
-  pub all : count ≡ count_nodes (nodes_of file)
+pub record Shelf (file table : List ℕ) : Type 0 where
   pub few : length (list_of (entries_of file)) ≤ table_rows
-  pub long : table_cells ≤ length table
   pub before : List ℕ
   pub filled : TableFilled (entries_of file) before table
 

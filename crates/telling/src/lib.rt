@@ -13,8 +13,9 @@ ghost use Rattle.facts.specs.Facts.{fact_line, Askable};
 ghost use Rattle.telling.specs.Text.{reason_by, record_words};
 ghost use Rattle.telling.specs.Shelf.{Shelf, Nexts};
 
-use formulas::{BASE, PUTS};
+use formulas::{Column, Formulas};
 use infon::{Record, Way};
+use nodes::Policy;
 
 // A formula by the node of its base and by its put places.
 #[derive(Clone, Copy)]
@@ -27,10 +28,10 @@ pub struct Key {
 fn place_of(places: &[u16], p: usize) -> usize
     ensures { result ≡ get_or places.now p 0 }
 {
-    if p < places.len() {
-        return nodes::wide(places[p]);
+    match places.get(p) {
+        Some(place) => usize::from(*place),
+        None => 0,
     }
-    0
 }
 
 // Puts a number between two texts.
@@ -61,6 +62,7 @@ fn put_by(p: usize, q: usize, out: &mut [u8], at: usize) -> usize
 }
 
 // Puts where a record comes from: a line of the file, or earlier records by their lines.
+#[tactic(auto, unfolding(crate::specs::Text::reason_by, infon::specs::Bytes::bytes))]
 fn put_reason(line: usize, places: &[u16], way: Way, out: &mut [u8], at: usize) -> usize
     requires { at ≤ length out.old }
     ensures { PutSome (reason_by line (λ (p : ℕ). get_or places.now p 0) way) at out.old result out.new }
@@ -75,8 +77,9 @@ fn put_reason(line: usize, places: &[u16], way: Way, out: &mut [u8], at: usize) 
             out,
             at,
         ),
-        Way::Left(p) => writing::put_number(b"part of ", place_of(places, p), out, at),
-        Way::Right(p) => writing::put_number(b"part of ", place_of(places, p), out, at),
+        Way::Left(p) | Way::Right(p) => {
+            writing::put_number(b"part of ", place_of(places, p), out, at)
+        }
         Way::Both(p, q) => put_together(place_of(places, p), place_of(places, q), out, at),
         Way::Apply(p, q) => put_by(place_of(places, p), place_of(places, q), out, at),
         Way::Attach(p) => put_enclosed(
@@ -90,22 +93,21 @@ fn put_reason(line: usize, places: &[u16], way: Way, out: &mut [u8], at: usize) 
 }
 
 // The line of the file that says a hypothesis; any other record needs none.
-fn line_for(file: &[u8], nodes: &[u16], count: usize, key: Key, way: Way) -> usize
-    requires { Askable file.now nodes.now count key.node key.puts }
-    ensures { (x : Formula) → ToldBy file.now nodes.now key.node key.puts x
-        → (place : ℕ → ℕ) → reason_by result place way ≡ reason_by (fact_line x (entries_of file.now)) place way }
+#[tactic(auto, unfolding(crate::specs::Text::reason_by))]
+fn line_for(policy: Policy, key: Key, way: Way) -> usize
+    requires { Askable policy.file.now policy.nodes.now policy.count key.node key.puts }
+    ensures { (x : Formula) → ToldBy policy.entry.file.now policy.entry.nodes.now key.node key.puts x
+        → (place : ℕ → ℕ) → reason_by result place way ≡ reason_by (fact_line x (entries_of policy.entry.file.now)) place way }
 {
-    if journal::rule_of(way) == 1 {
-        return facts::fact_line(file, nodes, count, key.node, key.puts);
+    match way {
+        Way::Hypothesis => facts::fact_line(policy, key.node, key.puts),
+        _ => 0,
     }
-    0
 }
 
 // Puts the line of a record: its count, where it comes from, and its formula.
 fn put_record(
-    file: &[u8],
-    nodes: &[u16],
-    count: usize,
+    policy: Policy,
     key: Key,
     places: &[u16],
     k: usize,
@@ -113,42 +115,40 @@ fn put_record(
     out: &mut [u8],
     at: usize,
 ) -> usize
-    requires { Askable file.now nodes.now count key.node key.puts × (at ≤ length out.old) }
-    ensures { (x : Formula) → ToldBy file.now nodes.now key.node key.puts x
-        → PutSome (record_words (fact_line x (entries_of file.now)) (λ (p : ℕ). get_or places.now p 0) x k way) at
+    requires { Askable policy.file.now policy.nodes.now policy.count key.node key.puts × (at ≤ length out.old) }
+    ensures { (x : Formula) → ToldBy policy.entry.file.now policy.entry.nodes.now key.node key.puts x
+        → PutSome (record_words (fact_line x (entries_of policy.entry.file.now)) (λ (p : ℕ). get_or places.now p 0) x k way) at
         out.old result out.new }
 {
-    let line = line_for(file, nodes, count, key, way);
+    let line = line_for(policy, key, way);
     let counted = writing::put_some_decimal(k, out, at);
     let dotted = writing::put_some(b". ", out, counted);
     let reasoned = put_reason(line, places, way, out, dotted);
     let parted = writing::put_some(b": ", out, reasoned);
-    let told = wording::put_formula(file, nodes, key.node, key.puts, out, parted);
+    let told = wording::put_formula(policy, key.node, key.puts, out, parted);
     writing::put_some(b"\n", out, told)
 }
 
 // Puts the line of the next record, and keeps in mind on which line its formula stands.
 fn put_next(
-    file: &[u8],
-    nodes: &[u16],
-    count: usize,
-    table: &[u16],
+    policy: Policy,
+    list: Formulas,
     r: Record,
     places: &mut [u16],
-    k: usize,
+    k: u16,
     out: &mut [u8],
     at: usize,
 ) -> usize
-    requires { Shelf file.now nodes.now count table.now × (r.formula < length (list_of (entries_of file.now)))
-        × (r.formula < length places.old) × (k < 65536) × (at ≤ length out.old) }
-    ensures { Nexts file.now places.old k r out.old at result places.new out.new }
+    requires { Shelf policy.file.now list.table.now × (r.formula < length (list_of (entries_of policy.file.now)))
+        × (r.formula < length places.old) × (at ≤ length out.old) }
+    ensures { Nexts policy.entry.file.now places.old k r out.old at result places.new out.new }
 {
     let formula = r.formula;
-    let node = formulas::cell_at(table, BASE, formula);
-    let puts = formulas::cell_at(table, PUTS, formula);
-    let key = Key { node, puts };
-    let way = r.way;
-    let end = put_record(file, nodes, count, key, places, k, way, out, at);
-    places[formula] = k as u16;
+    let key = Key {
+        node: list.at(Column::Base, formula),
+        puts: list.at(Column::Puts, formula),
+    };
+    let end = put_record(policy, key, places, usize::from(k), r.way, out, at);
+    places[formula] = k;
     end
 }

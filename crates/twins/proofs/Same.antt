@@ -11,10 +11,11 @@ use mathlib.Core.List.{List, [], ◌∷◌}
 use lib.ListN.{length}
 use lib.Dec.{ltb}
 use borrow.Author.Tests.{ltb-true, ltb-false}
+use Rattle.std.proofs.lemmas.Bool.{and_parts, and_from, cases_Bool, false_from_ne_true}
 use Rattle.infon.specs.Bytes.{alike}
 use Rattle.infon.specs.Formula.{put, Quotation, Formula, spelling, same, is_named}
 use Rattle.infon.specs.Listing.{Prefix}
-use Rattle.infon.proofs.Rows.{and_true, true_and, decided, alike_refl, alike_eq, not_true_false}
+use Rattle.infon.proofs.Rows.{alike_refl, alike_eq}
 use Rattle.infon.proofs.Same.{same_refl, same_eq}
 use Rattle.infon.proofs.Readable.{spelled_alike}
 use Rattle.formulas.specs.Table.{all_put}
@@ -33,7 +34,7 @@ principals_eq [] [] h = refl
 principals_eq [] (r ∷ w) h = absurd (false≢true h)
 principals_eq (q ∷ v) [] h = absurd (false≢true h)
 principals_eq (q ∷ v) (r ∷ w) h =
-    let both = and_true (alike q.principal r.principal) (same_principals v w) h in
+    let both = and_parts (alike q.principal r.principal) (same_principals v w) h in
     ap₂ (λ (p : List ℕ) (u : Prefix). record { told = put; principal = p } ∷ u) (alike_eq q.principal r.principal both.0)
     (principals_eq v w both.1)
 
@@ -45,7 +46,7 @@ eq_principals (q ∷ v) [] e = absurd (let z : ◌≡◌ {A = ℕ} 0 1 = cc in o
 eq_principals (q ∷ v) (r ∷ w) e =
     let first : ◌≡◌ {A = Quotation} (record { told = put; principal = q.principal }) (record { told = put; principal = r.principal }) = cc in
     let rest : all_put v ≡ all_put w = cc in
-    true_and
+    and_from _ _
     (subst (λ (p : List ℕ). alike q.principal p ≡ true) (ap (λ (u : Quotation). u.principal) first) (alike_refl q.principal))
     (eq_principals v w rest)
 
@@ -54,26 +55,26 @@ unfolding same_principals
 principals_length [] [] h = refl
 principals_length [] (r ∷ w) h = absurd (false≢true h)
 principals_length (q ∷ v) [] h = absurd (false≢true h)
-principals_length (q ∷ v) (r ∷ w) h = ap suc (principals_length v w (and_true (alike q.principal r.principal) (same_principals v w) h).1)
+principals_length (q ∷ v) (r ∷ w) h = ap suc (principals_length v w (and_parts (alike q.principal r.principal) (same_principals v w) h).1)
 
 -- Twins.
 module _ (n o : Node) where
   pub twins_eq : are_twins n o ≡ true → (n.what ≡ o.what) × (all_put n.pre ≡ all_put o.pre)
   unfolding are_twins
   twins_eq h =
-      let both = and_true (same n.what o.what) (same_principals n.pre o.pre) h in
+      let both = and_parts (same n.what o.what) (same_principals n.pre o.pre) h in
       (same_eq n.what o.what both.0, principals_eq n.pre o.pre both.1)
 
   pub eq_twins : n.what ≡ o.what → all_put n.pre ≡ all_put o.pre → are_twins n o ≡ true
   unfolding are_twins
   eq_twins e f =
-      true_and (subst (λ (x : Formula). same n.what x ≡ true) e (same_refl n.what)) (eq_principals n.pre o.pre f)
+      and_from _ _ (subst (λ (x : Formula). same n.what x ≡ true) e (same_refl n.what)) (eq_principals n.pre o.pre f)
 
   unlike_depths : (length n.pre ≡ length o.pre → ⊥) → are_twins n o ≡ false
   unfolding are_twins
   unlike_depths apart =
-      not_true_false (are_twins n o)
-      (λ h. apart (principals_length n.pre o.pre (and_true (same n.what o.what) (same_principals n.pre o.pre) h).1))
+      false_from_ne_true (are_twins n o)
+      (λ h. apart (principals_length n.pre o.pre (and_parts (same n.what o.what) (same_principals n.pre o.pre) h).1))
 
   twins_spelled : is_named n.what ≡ true → is_named o.what ≡ true
       → are_twins n o ≡ alike (spelling n.what) (spelling o.what) && same_principals n.pre o.pre
@@ -114,12 +115,20 @@ module _ (file t : List ℕ) (held : NodesHeld file t) (i j : ℕ) (hi : i < cou
 
   -- what the comparison of the principals asks
   pub places_asked : {mine other : ℕ} → mine ≡ node_cell t node_depth i → other ≡ node_cell t node_depth j → mine ≡ other
-      → (Sized (prefix_at t i) × Sized (prefix_at t j))
-      × (((prefix_at t i).count ≡ (prefix_at t j).count)
-      × (EachPlace (Quoting file t) (used (prefix_at t i)) × EachPlace (Quoting file t) (used (prefix_at t j))))
+      → record {
+        sized : Sized (prefix_at t i) × Sized (prefix_at t j);
+        alike_long : (prefix_at t i).count ≡ (prefix_at t j).count;
+        mine : EachPlace (Quoting file t) (used (prefix_at t i));
+        others : EachPlace (Quoting file t) (used (prefix_at t j));
+      }
   unfolding prefix_at
   places_asked first second e =
-      ((prefix_sized file t held i hi, prefix_sized file t held j hj), (sym first ∙ e ∙ second, (all_quoting file t held i hi, all_quoting file t held j hj)))
+      record {
+        sized = (prefix_sized file t held i hi, prefix_sized file t held j hj);
+        alike_long = sym first ∙ e ∙ second;
+        mine = all_quoting file t held i hi;
+        others = all_quoting file t held j hj;
+      }
 
 -- The first that passes a test: it passes, or it is the one behind them; none before it passes.
 module _ (test : ℕ → Bool) where
@@ -129,7 +138,7 @@ module _ (test : ℕ → Bool) where
   first_most j (suc k) =
       ⊎_elim (λ (e : test j ≡ true). rw e (omega arith))
       (λ (e : test j ≡ false). let later = first_most (suc j) k in rw e (omega arith))
-      (decided (test j))
+      (cases_Bool (test j))
 
   first_passes : (j k : ℕ) → test (j + k) ≡ true → test (first_from test j k) ≡ true
   unfolding first_from
@@ -139,7 +148,7 @@ module _ (test : ℕ → Bool) where
       (λ (e : test j ≡ false).
       let f : j + suc k ≡ suc j + k = omega arith in
       rw e (first_passes (suc j) k (rw f at h)))
-      (decided (test j))
+      (cases_Bool (test j))
 
   none_before : (j k l : ℕ) → j ≤ l → l < first_from test j k → test l ≡ false
   unfolding first_from
@@ -149,8 +158,8 @@ module _ (test : ℕ → Bool) where
       (λ (e : test j ≡ false).
       ⊎_elim (λ (less : ltb j l ≡ true). none_before (suc j) k l (ltb-true j l less) (rw e at before))
       (λ (more : ltb j l ≡ false). let same : l ≡ j = omega (arith, ltb-false j l more) in rw (same, e))
-      (decided (ltb j l)))
-      (decided (test j))
+      (cases_Bool (ltb j l)))
+      (cases_Bool (test j))
 
 module _ (row : List Node) where
   abbrev twin_to : ℕ → ℕ → Bool
@@ -199,5 +208,5 @@ module _ (row : List Node) where
       let a = ltb-false (twin_of row i) (twin_of row j) some in
       let b = ltb-false (twin_of row j) (twin_of row i) none in
       omega arith)
-      (decided (ltb (twin_of row j) (twin_of row i))))
-      (decided (ltb (twin_of row i) (twin_of row j)))
+      (cases_Bool (ltb (twin_of row j) (twin_of row i))))
+      (cases_Bool (ltb (twin_of row i) (twin_of row j)))

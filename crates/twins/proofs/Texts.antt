@@ -6,9 +6,9 @@ use mathlib.Core.Path.{◌≡◌, refl, sym, ◌∙◌, ap, ap₂, subst}
 use mathlib.Core.Bool.{true, ◌&&◌}
 use mathlib.Core.List.{List, [], ◌∷◌, ◌++◌, append_assoc}
 use lib.ListN.{length, take, drop, length-append}
+use Rattle.std.proofs.lemmas.Bool.{and_parts}
 use Rattle.infon.specs.Bytes.{bytes, space, alike}
 use Rattle.infon.specs.Formula.{Quotation, Formula, True, name, and, implies, quoted, letter_of, spelling, nodes, is_name, is_named, words, joined}
-use Rattle.infon.proofs.Rows.{and_true}
 use Rattle.infon.proofs.Readable.{letter_length, name_positive}
 use Rattle.spelling.proofs.Tokenised.{name_token}
 use Rattle.spelling.specs.Token.{is_break}
@@ -18,8 +18,12 @@ use Rattle.nodes.proofs.Every.{node_named}
 use Rattle.nodes.proofs.Spelled.{Stands, stands_back, stands_within, and_spelled, implies_spelled, quoted_spelled, node_stands, node_text}
 use Rattle.prefix.specs.declared.Place.{Place}
 use Rattle.prefix.specs.Places.{used, EachPlace, prefix_at}
-use Rattle.prefix.proofs.Shown.{principal_of, shown, quotation_of, prefix_shown, places_quoted, count_few, table_long, place_cell, own_cell, end_cell}
+use Rattle.prefix.proofs.Shown.{principal_of, shown, quotation_of, prefix_shown, places_quoted, count_few, place_cell, own_cell, end_cell}
 use Rattle.twins.specs.Twins.{same_principals, principal_text, same_places, Quoting}
+
+-- what is below the count of a policy's nodes is a node of it
+pub counted : {i count n : ℕ} → count ≡ n → i < count → i < n
+counted e h = omega arith
 
 two_length : (letter : List ℕ) (x y : Formula) → length letter ≡ 1
     → length (letter ++ (space ∷ (spelling x ++ (space ∷ spelling y)))) ≡ 3 + length (spelling x) + length (spelling y)
@@ -161,7 +165,7 @@ module _ (file t : List ℕ) (held : NodesHeld file t) where
 
     principal_named : is_name q.principal ≡ true
     unfolding is_named
-    principal_named = (and_true (is_name q.principal) (is_named x) (sym (ap is_named e) ∙ node_named file a h)).0
+    principal_named = (and_parts (is_name q.principal) (is_named x) (sym (ap is_named e) ∙ node_named file a h)).0
 
     pub principal_text_lem : principal_text file t a ≡ principal_of (node_at (nodes_of file) a).what
     unfolding principal_text principal_of is_break space
@@ -173,7 +177,6 @@ module _ (file t : List ℕ) (held : NodesHeld file t) where
     pub quoting : Quoting file t a
     quoting =
         record {
-          long = table_long file t held;
           row = omega (arith, count_few file t held);
           inside = omega (arith, text_inside a h, quoted_length q x, ap (λ (y : Formula). length (spelling y)) e);
         }

@@ -1,12 +1,18 @@
 -- The loops that compare, a turn each.
 -- Assumes nothing.
-use Prim.Native.Nat.{ℕ, zero, suc, ◌+◌, ◌-◌, ◌≤◌, ◌<◌}
+use Prim.Native.Nat.{ℕ, zero, suc, ◌+◌, ◌≤◌, ◌<◌}
 use native.Mathlib.Numerals.{add-one}
 use native.Mathlib.Omega.{arith}
 use mathlib.Core.Path.{◌≡◌, sym, ◌∙◌, ap, ap₂}
-use mathlib.Core.Bool.{Bool, true, false, cond, ◌&&◌}
+use mathlib.Core.Bool.{Bool, true, false, ◌&&◌}
 use mathlib.Core.List.{List, [], ◌∷◌}
 use lib.ListN.{length, get_or, take, drop, length-take, drop_of_length-le}
+use native.Mathlib.Nat.{zero-add}
+use mathlib.Core.Logic.{⊎_elim}
+use Rattle.std.specs.Prelude.{Option, find}
+use Rattle.std.specs.List.{range_with_len}
+use Rattle.std.specs.Option.{unwrap_or}
+use Rattle.std.proofs.lemmas.Bool.{cases_Bool as decided}
 use lib.Seq.{drop-cons, get_or-take, length-take-le}
 use Rattle.infon.specs.Bytes.{alike}
 use Rattle.prefix.specs.declared.Place.{Place}
@@ -51,20 +57,17 @@ each_place P (q ∷ ps) zero k d fits h each = absurd (omega arith)
 each_place P (q ∷ ps) (suc count) zero d fits h each = each.0
 each_place P (q ∷ ps) (suc count) (suc k) d fits h each = each_place P ps count k d (omega arith) (omega arith) each.1
 
--- The first that passes.
-module _ (test : ℕ → Bool) (i j : ℕ) where
-  first_step : j < i → first_from test j (i - j) ≡ cond (test j) j (first_from test (j + 1) (i - (j + 1)))
+-- The first that passes, by the library's search through so many numbers.
+module _ (test : ℕ → Bool) where
+  first_searched : (k j : ℕ) → unwrap_or (find test (range_with_len j k)) (j + k) ≡ first_from test j k
   unfolding first_from
-  first_step h =
-      let e : i - j ≡ suc (i - (j + 1)) = omega arith in
-      ap (first_from test j) e ∙ ap (λ (n : ℕ). cond (test j) j (first_from test n (i - (j + 1)))) (sym (add-one j))
+  first_searched zero j = omega arith
+  first_searched (suc k) j =
+      ⊎_elim (λ (here : test j ≡ true). rw here)
+      (λ (later : test j ≡ false).
+      let e : j + suc k ≡ suc j + k = omega arith in
+      rw (later, e, add-one j) (first_searched k (suc j)))
+      (decided (test j))
 
-  pub first_here : j < i → test j ≡ true → first_from test j (i - j) ≡ j
-  first_here h e = first_step h ∙ ap (λ (b : Bool). cond b j (first_from test (j + 1) (i - (j + 1)))) e
-
-  pub first_later : j < i → test j ≡ false → first_from test j (i - j) ≡ first_from test (j + 1) (i - (j + 1))
-  first_later h e = first_step h ∙ ap (λ (b : Bool). cond b j (first_from test (j + 1) (i - (j + 1)))) e
-
-  pub first_none : i ≤ j → first_from test j (i - j) ≡ j
-  unfolding first_from
-  first_none h = let e : i - j ≡ 0 = omega arith in ap (first_from test j) e
+  pub twin_searched : (i : ℕ) {r : ℕ} {found : Option ℕ} → r ≡ unwrap_or found i → found ≡ find test (range_with_len 0 i) → r ≡ first_from test 0 i
+  twin_searched i e found = e ∙ ap (λ (o : Option ℕ). unwrap_or o i) found ∙ rw (zero-add i) at (first_searched i 0)

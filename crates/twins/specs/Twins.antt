@@ -1,10 +1,10 @@
 -- Nodes that are twins: the same formula begins there, under the same principals. Their bases have the same weaker forms but for
 -- the kinds of the places.
-use Rattle.std.specs.Prelude.{ℕ, zero, suc, ◌+◌, ◌≤◌, ◌<◌, ◌≡◌, Bool, true, false, cond, ◌&&◌, List, [], ◌∷◌, length}
+use Rattle.std.specs.Prelude.{ℕ, zero, suc, ◌+◌, ◌≤◌, ◌<◌, Bool, true, false, cond, ◌&&◌, List, [], ◌∷◌, length}
 use Rattle.infon.specs.Bytes.{alike}
 use Rattle.infon.specs.Formula.{same}
 use Rattle.infon.specs.Listing.{Prefix}
-use Rattle.nodes.specs.Nodes.{Node, node_at, node_rows, node_table, node_place, node_cell}
+use Rattle.nodes.specs.Nodes.{Node, node_at, node_rows, node_place, node_cell}
 use Rattle.prefix.specs.declared.Place.{Place}
 use Rattle.spelling.specs.Token.{word_at}
 
@@ -41,6 +41,5 @@ same_places file t (a ∷ ps) (b ∷ qs) =
 
 -- a quotation node whose principal stands inside the file
 pub record Quoting (file t : List ℕ) (a : ℕ) : Type 0 where
-  pub long : length t ≡ node_table
   pub row : a < node_rows
   pub inside : node_cell t node_place a + 2 ≤ length file

@@ -8,74 +8,87 @@ use native.Mathlib.Decide.{dec_lt}
 use native.Mathlib.Omega.{arith}
 use mathlib.Core.Path.{◌≡◌, refl, sym, ◌∙◌, ap, subst}
 use mathlib.Core.Logic.{inl, inr}
-use mathlib.Core.Bool.{Bool, true, false, cond, ◌&&◌, not}
+use mathlib.Core.Bool.{true, false, ◌&&◌, not}
 use mathlib.Core.List.{List, [], ◌∷◌, ◌++◌, append_assoc}
-use lib.ListN.{length, get_or, drop, length-drop, length-append, get_or-eq_default}
+use lib.ListN.{length, get_or, drop, get_or-eq_default}
 use lib.Seq.{drop-drop, get_or-drop}
 use lib.Dec.{leb, eqb}
 use borrow.Author.Tests.{leb-true, lt-ltb, le-ltb, eq-eqb, ne_eqb}
+use Rattle.std.proofs.lemmas.Bool.{and_parts, and_from, or_parts}
 use Rattle.infon.specs.Bytes.{bytes, space, line_feed, alike, every}
 use Rattle.infon.specs.Formula.{Told, said, put, Formula, True, name, and, implies, quoted, is_name_byte, is_name, is_named, letter_of, words, joined, spelling}
-use Rattle.infon.specs.declared.Verdict.TheVariants.{Passed, Refused}
-use Rattle.infon.specs.Codes.{when}
+use Rattle.infon.specs.Codes.{when, passed, refused}
 use Rattle.infon.specs.Policy.{entries_of, code2, most_nodes, code3}
-use Rattle.infon.proofs.Rows.{and_true, true_and, or_false_both}
 use Rattle.infon.proofs.Words.{lacks}
 use Rattle.infon.proofs.Readable.{unlike_name}
-use Rattle.nodes.specs.Nodes.{Node, after, node_at, count_nodes, own_bytes, nodes_of}
+use Rattle.nodes.specs.Nodes.{Node, kind_of, after, node_at, count_nodes, own_bytes, nodes_of}
 use Rattle.nodes.proofs.Order.{node_first, node_step, after_none}
 use Rattle.nodes.proofs.Every.{node_named}
 use Rattle.nodes.proofs.Codes.{code3_node}
 use Rattle.nodes.proofs.Spelled.{and_spelled, implies_spelled, quoted_spelled, Chain, Behind, GoesOn, chain_goes_on, file_chain}
 use Rattle.spelling.specs.declared.Parsed.{Parsed}
-use Rattle.spelling.specs.declared.Parsed.TheVariants.{True as aTrue, Name as aName, And as anAnd, Implies as anImplies, Quoted as aQuoted}
 use Rattle.spelling.specs.Token.{is_break, word_at}
-use Rattle.spelling.specs.Parsing.{quotation_at, parsed_at}
-use Rattle.spelling.proofs.Parses.{with_principal, parses_true, parses_and, parses_implies, parses_said, parses_put, parses_name}
+use Rattle.spelling.specs.Parsing.{quotation_at, parsed_at, behind_own, kind_parsed}
+use Rattle.spelling.proofs.Breaks.{parsed_none}
+use Rattle.spelling.proofs.Counted.{is_said}
+use Rattle.spelling.specs.declared.Parsed.TheVariants as Read
+use Rattle.nodes.specs.Columns.{number_of}
+use Rattle.std.specs.Prelude.{Bool, Option, None, Some}
+use Rattle.std.proofs.lemmas.Option.{same_Some, none-some}
 use Rattle.spelling.proofs.Tokenised.{token_cut, name_token}
 use Rattle.walk.specs.declared.Spot.{Spot}
-use Rattle.walk.specs.Walking.{behind_own, next_spot}
-
-module _ (file : List ℕ) (end line : ℕ) where
-  pub spot_space : get_or file end 0 ≡ 32 → record { at = end + 1; line = line } ≡ next_spot file end line
-  unfolding next_spot space
-  spot_space e = rw (eq-eqb (get_or file end 0) 32 e)
-
-  pub spot_feed : (get_or file end 0 ≡ 32 → ⊥) → record { at = end + 3; line = end + 1 } ≡ next_spot file end line
-  unfolding next_spot space
-  spot_feed e = rw (ne_eqb (get_or file end 0) 32 e)
+use Rattle.walk.specs.Walking.{next_spot}
 
 -- What is parsed where a formula stands, with a break behind it.
-abbrev pub is_said : Told → Bool
-is_said said = true
-is_said put = false
-
 abbrev pub parsed_of : ℕ → Formula → Parsed
-parsed_of at True = aTrue
-parsed_of at (name a) = aName (at + length a)
-parsed_of at (and x y) = anAnd
-parsed_of at (implies x y) = anImplies
-parsed_of at (quoted q x) = aQuoted (is_said q.told) (at + 1 + 1) (at + 1 + 1 + length q.principal)
+parsed_of at True = Read.True
+parsed_of at (name a) = Read.Name (at + length a)
+parsed_of at (and x y) = Read.And
+parsed_of at (implies x y) = Read.Implies
+parsed_of at (quoted q x) = Read.Quoted (is_said q.told) (at + 1 + 1) (at + 1 + 1 + length q.principal)
+
+own_parsed : (at : ℕ) (x : Formula) → behind_own at (parsed_of at x) ≡ at + own_bytes x
+unfolding own_bytes
+own_parsed at True = refl
+own_parsed at (name a) = refl
+own_parsed at (and x y) = refl
+own_parsed at (implies x y) = refl
+own_parsed at (quoted q x) = omega arith
+
+quoted_number : (told : Told) (principal : List ℕ) (x : Formula) (start end : ℕ)
+    → number_of (kind_parsed (Read.Quoted (is_said told) start end)) ≡ kind_of (quoted (record { told = told; principal = principal }) x)
+unfolding kind_of
+quoted_number said principal x start end = refl
+quoted_number put principal x start end = refl
+
+number_parsed : (at : ℕ) (x : Formula) → number_of (kind_parsed (parsed_of at x)) ≡ kind_of x
+unfolding kind_of
+number_parsed at True = refl
+number_parsed at (name a) = refl
+number_parsed at (and x y) = refl
+number_parsed at (implies x y) = refl
+number_parsed at (quoted q x) = quoted_number q.told q.principal x (at + 1 + 1) (at + 1 + 1 + length q.principal)
 
 module _ (file : List ℕ) (at : ℕ) where
   letter_token : (letter : ℕ) (b : ℕ) (rest : List ℕ) → is_break letter ≡ false → is_break b ≡ true → drop at file ≡ letter ∷ (b ∷ rest)
       → word_at file at ≡ letter ∷ []
   unfolding is_break lacks every
   letter_token letter b rest plain broken h =
-      let apart = or_false_both (eqb letter space) (eqb letter line_feed) plain in
-      token_cut file at (letter ∷ []) b rest h (true_and (ap not apart.0) refl) (true_and (ap not apart.1) refl) broken
+      let apart = or_parts (eqb letter space) (eqb letter line_feed) plain in
+      token_cut file at (letter ∷ []) b rest h (and_from _ _ (ap not apart.0) refl) (and_from _ _ (ap not apart.1) refl) broken
 
-  lettered : (word : List ℕ) (letter : ℕ) (t : Bool) → word_at file at ≡ word → alike word (letter ∷ []) ≡ t → alike (word_at file at) (letter ∷ []) ≡ t
-  lettered word letter t e h = ap (λ w. alike w (letter ∷ [])) e ∙ h
-
-  parsed_name : (a : List ℕ) → is_name a ≡ true → word_at file at ≡ a → parsed_at file at ≡ aName (at + length a)
-  unfolding is_name is_name_byte every bytes
+  parsed_name : (a : List ℕ) → is_name a ≡ true → word_at file at ≡ a → parsed_at file at ≡ Some (Read.Name (at + length a))
+  unfolding parsed_at is_name is_name_byte every bytes
   parsed_name a named e =
-      sym
-      (ap (λ w. aName (at + length w)) (sym e)
-      ∙ parses_name file at (lettered a 84 false e (unlike_name a (84 ∷ []) named refl)) (lettered a 43 false e (unlike_name a (43 ∷ []) named refl))
-      (lettered a 62 false e (unlike_name a (62 ∷ []) named refl)) (lettered a 83 false e (unlike_name a (83 ∷ []) named refl))
-      (lettered a 80 false e (unlike_name a (80 ∷ []) named refl)) (ap is_name e ∙ named))
+      rw (
+        e,
+        unlike_name a (84 ∷ []) named refl,
+        unlike_name a (43 ∷ []) named refl,
+        unlike_name a (62 ∷ []) named refl,
+        unlike_name a (83 ∷ []) named refl,
+        unlike_name a (80 ∷ []) named refl,
+        named,
+      )
 
   -- one byte further
   byte_there : (a : ℕ) (s : List ℕ) → drop at file ≡ a ∷ s → get_or file at 0 ≡ a
@@ -90,67 +103,48 @@ is_space = refl
 
 module _ (file : List ℕ) (at : ℕ) where
   quoted_parsed : (s : Bool) (p rest : List ℕ) → is_name p ≡ true → drop (at + 1) file ≡ space ∷ (p ++ (space ∷ rest))
-      → quotation_at s file (at + 1) ≡ aQuoted s (at + 1 + 1) (at + 1 + 1 + length p)
-  unfolding space
+      → quotation_at s file (at + 1) ≡ Some (Read.Quoted s (at + 1 + 1) (at + 1 + 1 + length p))
+  unfolding quotation_at space
   quoted_parsed s p rest named h =
-      let word = name_token file (at + 1 + 1) p space rest named is_space (byte_passed file (at + 1) space (p ++ (space ∷ rest)) h) in
-      sym
-      (ap (λ w. aQuoted s (at + 1 + 1) (at + 1 + 1 + length w)) (sym word)
-      ∙ with_principal s file (at + 1) (byte_there file (at + 1) space (p ++ (space ∷ rest)) h) (ap is_name word ∙ named))
+      rw (
+        byte_there file (at + 1) space (p ++ (space ∷ rest)) h,
+        name_token file (at + 1 + 1) p space rest named is_space (byte_passed file (at + 1) space (p ++ (space ∷ rest)) h),
+        named,
+      )
 
   letter_parsed : (told : Told) (p rest : List ℕ) → is_name p ≡ true → drop at file ≡ letter_of told ++ (space ∷ (p ++ (space ∷ rest)))
-      → parsed_at file at ≡ aQuoted (is_said told) (at + 1 + 1) (at + 1 + 1 + length p)
-  unfolding letter_of bytes is_break space line_feed alike
+      → parsed_at file at ≡ Some (Read.Quoted (is_said told) (at + 1 + 1) (at + 1 + 1 + length p))
+  unfolding parsed_at letter_of bytes is_break space line_feed alike
   letter_parsed said p rest named h =
-      let word = letter_token file at 83 space (p ++ (space ∷ rest)) refl refl h in
-      sym
-      (parses_said file at (lettered file at (83 ∷ []) 84 false word refl) (lettered file at (83 ∷ []) 43 false word refl)
-      (lettered file at (83 ∷ []) 62 false word refl) (lettered file at (83 ∷ []) 83 true word refl))
-      ∙ quoted_parsed true p rest named (byte_passed file at 83 (space ∷ (p ++ (space ∷ rest))) h)
+      rw (letter_token file at 83 space (p ++ (space ∷ rest)) refl refl h)
+      (quoted_parsed true p rest named (byte_passed file at 83 (space ∷ (p ++ (space ∷ rest))) h))
   letter_parsed put p rest named h =
-      let word = letter_token file at 80 space (p ++ (space ∷ rest)) refl refl h in
-      sym
-      (parses_put file at (lettered file at (80 ∷ []) 84 false word refl) (lettered file at (80 ∷ []) 43 false word refl)
-      (lettered file at (80 ∷ []) 62 false word refl) (lettered file at (80 ∷ []) 83 false word refl) (lettered file at (80 ∷ []) 80 true word refl))
-      ∙ quoted_parsed false p rest named (byte_passed file at 80 (space ∷ (p ++ (space ∷ rest))) h)
+      rw (letter_token file at 80 space (p ++ (space ∷ rest)) refl refl h)
+      (quoted_parsed false p rest named (byte_passed file at 80 (space ∷ (p ++ (space ∷ rest))) h))
 
   pub parsed_formula : (x : Formula) (b : ℕ) (rest : List ℕ) → is_named x ≡ true → is_break b ≡ true → drop at file ≡ spelling x ++ (b ∷ rest)
-      → parsed_at file at ≡ parsed_of at x
-  unfolding spelling words joined bytes is_break space line_feed alike is_named
-  parsed_formula True b rest named broken h =
-      sym (parses_true file at (lettered file at (84 ∷ []) 84 true (letter_token file at 84 b rest refl broken h) refl))
+      → parsed_at file at ≡ Some (parsed_of at x)
+  unfolding parsed_at spelling words joined bytes is_break space line_feed alike is_named kind_of own_bytes
+  parsed_formula True b rest named broken h = rw (letter_token file at 84 b rest refl broken h)
   parsed_formula (name a) b rest named broken h = parsed_name file at a named (name_token file at a b rest named broken h)
   parsed_formula (and x y) b rest named broken h =
       let tail = (spelling x ++ (space ∷ spelling y)) ++ (b ∷ rest) in
-      let word = letter_token file at 43 space tail refl refl (h ∙ ap (λ t. t ++ (b ∷ rest)) (and_spelled x y)) in
-      sym (parses_and file at (lettered file at (43 ∷ []) 84 false word refl) (lettered file at (43 ∷ []) 43 true word refl))
+      rw (letter_token file at 43 space tail refl refl (h ∙ ap (λ t. t ++ (b ∷ rest)) (and_spelled x y)))
   parsed_formula (implies x y) b rest named broken h =
       let tail = (spelling x ++ (space ∷ spelling y)) ++ (b ∷ rest) in
-      let word = letter_token file at 62 space tail refl refl (h ∙ ap (λ t. t ++ (b ∷ rest)) (implies_spelled x y)) in
-      sym
-      (parses_implies file at (lettered file at (62 ∷ []) 84 false word refl) (lettered file at (62 ∷ []) 43 false word refl)
-      (lettered file at (62 ∷ []) 62 true word refl))
+      rw (letter_token file at 62 space tail refl refl (h ∙ ap (λ t. t ++ (b ∷ rest)) (implies_spelled x y)))
   parsed_formula (quoted q x) b rest named broken h =
-      let both = and_true (is_name q.principal) (is_named x) named in
+      let both = and_parts (is_name q.principal) (is_named x) named in
       letter_parsed q.told q.principal (spelling x ++ (b ∷ rest)) both.0
       (h ∙ ap (λ t. t ++ (b ∷ rest)) (quoted_spelled q x)
       ∙ append_assoc (letter_of q.told) (space ∷ (q.principal ++ (space ∷ spelling x))) (b ∷ rest)
       ∙ ap (λ t. letter_of q.told ++ (space ∷ t)) (append_assoc q.principal (space ∷ spelling x) (b ∷ rest)))
 
--- its own bytes, and its kind
-pub own_parsed : (at : ℕ) (x : Formula) → behind_own at (parsed_of at x) ≡ at + own_bytes x
-unfolding behind_own own_bytes
-own_parsed at True = refl
-own_parsed at (name a) = refl
-own_parsed at (and x y) = refl
-own_parsed at (implies x y) = refl
-own_parsed at (quoted q x) = omega arith
-
 own_positive : (x : Formula) → is_named x ≡ true → 0 < own_bytes x
 unfolding own_bytes is_named is_name
 own_positive True h = omega arith
 own_positive (name a) h =
-    leb-true 1 (length a) (and_true (leb 1 (length a)) (leb (length a) 16) (and_true (leb 1 (length a) && leb (length a) 16) (every is_name_byte a) h).0).0
+    leb-true 1 (length a) (and_parts (leb 1 (length a)) (leb (length a) 16) (and_parts (leb 1 (length a) && leb (length a) 16) (every is_name_byte a) h).0).0
 own_positive (and x y) h = omega arith
 own_positive (implies x y) h = omega arith
 own_positive (quoted q x) h = omega arith
@@ -172,44 +166,49 @@ behind_break file at line text row (inr h) = (line_feed, (h.0.0, (refl, h.0.1 �
 -- a chain goes on where the next spot is
 goes_on_spot : (file : List ℕ) (at line own : ℕ) (row : List Node) → GoesOn file at line own row
     → (at + own < length file) × Chain file (next_spot file (at + own) line).at (next_spot file (at + own) line).line row
-unfolding space line_feed
+unfolding next_spot space line_feed
 goes_on_spot file at line own row (inl h) = (
   byte_within file (at + own) (omega (arith, h.0)),
-  subst (λ (s : Spot). Chain file s.at s.line row) (spot_space file (at + own) line h.0) h.1,
+  rw (eq-eqb (get_or file (at + own) 0) 32 h.0) h.1,
 )
 goes_on_spot file at line own row (inr h) = (
   byte_within file (at + own) (omega (arith, h.0)),
-  subst (λ (s : Spot). Chain file s.at s.line row) (spot_feed file (at + own) line (λ e. omega (arith, h.0))) h.1,
+  rw (ne_eqb (get_or file (at + own) 0) 32 (omega (arith, h.0))) h.1,
 )
 
-spot_forward : (file : List ℕ) (end line : ℕ) → end < (next_spot file end line).at
-unfolding next_spot
-spot_forward file end line =
-    elim (eqb (get_or file end 0) space) as (λ t. end < (cond {A = Spot} t (record { at = end + 1; line = line }) (record { at = end + 3; line = end + 1 })).at)
-    [ true ↦ omega arith | false ↦ omega arith ]
-
 -- The walk begins at the third byte.
-pub walk_begin : (file : List ℕ) → code2 file ≡ Passed → Chain file 2 0 (after 0 0 (nodes_of file))
+pub walk_begin : (file : List ℕ) → code2 file ≡ passed → Chain file 2 0 (after 0 0 (nodes_of file))
 unfolding after
 walk_begin file formed = file_chain file formed
 
 -- One turn of the walk.
 module _ (file : List ℕ) (at line i : ℕ) (few : i ≤ count_nodes (nodes_of file)) (chain : Chain file at line (after 0 i (nodes_of file))) where
-  at_node : i < count_nodes (nodes_of file) → Chain file at line (node_at (nodes_of file) i ∷ drop 1 (after 0 i (nodes_of file)))
+  abbrev node : Node
+  node = node_at (nodes_of file) i
+
+  at_node : i < count_nodes (nodes_of file) → Chain file at line (node ∷ drop 1 (after 0 i (nodes_of file)))
   at_node h = subst (Chain file at line) (node_first (nodes_of file) i h) chain
 
-  pub walk_over : length file ≤ at → i ≡ count_nodes (nodes_of file)
-  walk_over over = by_count (dec_lt i (count_nodes (nodes_of file)))
+  walk_parsed : i < count_nodes (nodes_of file) → parsed_at file at ≡ Some (parsed_of at node.what)
+  walk_parsed h =
+      let stop = behind_break file at line (spelling node.what) (drop 1 (after 0 i (nodes_of file))) (at_node h).1.1 in
+      parsed_formula file at node.what stop.0 stop.1.0 (node_named file i h) stop.1.1.0 stop.1.1.1
+
+  pub walk_over : (o : Option Parsed) → o ≡ parsed_at file at → o ≡ None → i ≡ count_nodes (nodes_of file)
+  walk_over o e none = by_count (dec_lt i (count_nodes (nodes_of file)))
     where
       by_count : Dec (i < count_nodes (nodes_of file)) → i ≡ count_nodes (nodes_of file)
-      by_count (yes h) =
-          let text = spelling (node_at (nodes_of file) i).what in
-          let stop = behind_break file at line text (drop 1 (after 0 i (nodes_of file))) (at_node h).1.1 in
-          absurd
-          (omega (arith, ap length stop.1.1.1, length-append text (stop.0 ∷ stop.1.0), length-drop at file))
+      by_count (yes h) = absurd (none-some _ (sym none ∙ e ∙ walk_parsed h))
       by_count (no h) = omega arith
 
-  module _ (inside : at < length file) where
+  module _ (o : Option Parsed) (p : Parsed) (e : o ≡ parsed_at file at) (is : o ≡ Some p) where
+    pub walk_inside : at < length file
+    walk_inside = by_place (dec_lt at (length file))
+      where
+        by_place : Dec (at < length file) → at < length file
+        by_place (yes h) = h
+        by_place (no h) = absurd (none-some _ (sym (parsed_none file at (omega arith)) ∙ sym e ∙ is))
+
     pub walk_here : i < count_nodes (nodes_of file)
     walk_here = by_count (dec_lt i (count_nodes (nodes_of file)))
       where
@@ -217,56 +216,48 @@ module _ (file : List ℕ) (at line i : ℕ) (few : i ≤ count_nodes (nodes_of 
         by_count (yes h) = h
         by_count (no h) =
             let ended : Chain file at line [] = subst (Chain file at line) (after_none 0 i (nodes_of file) (omega arith)) chain in
-            absurd (omega arith)
+            absurd (omega (arith, walk_inside))
 
-    pub walk_place : (node_at (nodes_of file) i).place ≡ at
+    pub walk_place : node.place ≡ at
     walk_place = (at_node walk_here).0
 
-    pub walk_line : (node_at (nodes_of file) i).line ≡ line
+    pub walk_line : node.line ≡ line
     walk_line = (at_node walk_here).1.0
 
-    pub walk_parsed : parsed_at file at ≡ parsed_of at (node_at (nodes_of file) i).what
-    walk_parsed =
-        let x = (node_at (nodes_of file) i).what in
-        let stop = behind_break file at line (spelling x) (drop 1 (after 0 i (nodes_of file))) (at_node walk_here).1.1 in
-        parsed_formula file at x stop.0 stop.1.0 (node_named file i walk_here) stop.1.1.0 stop.1.1.1
+    same_node : parsed_of at node.what ≡ p
+    same_node = same_Some _ _ (sym (walk_parsed walk_here) ∙ sym e ∙ is)
 
-    pub walk_end : behind_own at (parsed_at file at) ≡ at + own_bytes (node_at (nodes_of file) i).what
-    walk_end = ap (behind_own at) walk_parsed ∙ own_parsed at (node_at (nodes_of file) i).what
+    pub walk_kind : number_of (kind_parsed p) ≡ kind_of node.what
+    walk_kind = rw (← same_node) (number_parsed at node.what)
 
-    pub walk_forward : 0 < own_bytes (node_at (nodes_of file) i).what
-    walk_forward = own_positive (node_at (nodes_of file) i).what (node_named file i walk_here)
+    pub walk_end : at + own_bytes node.what ≡ behind_own at p
+    walk_end = sym (own_parsed at node.what) ∙ ap (behind_own at) same_node
 
-    module _ (end : ℕ) (e : end ≡ behind_own at (parsed_at file at)) where
-      goes_on : (at + own_bytes (node_at (nodes_of file) i).what < length file)
-          × Chain file (next_spot file (at + own_bytes (node_at (nodes_of file) i).what) line).at
-          (next_spot file (at + own_bytes (node_at (nodes_of file) i).what) line).line (after 0 (suc i) (nodes_of file))
+    pub walk_forward : 0 < own_bytes node.what
+    walk_forward = own_positive node.what (node_named file i walk_here)
+
+    module _ (end : ℕ) (f : end ≡ behind_own at p) where
+      goes_on : (end < length file) × Chain file (next_spot file end line).at (next_spot file end line).line (after 0 (suc i) (nodes_of file))
       goes_on =
-          let n = node_at (nodes_of file) i in
           let rest = drop 1 (after 0 i (nodes_of file)) in
-          goes_on_spot file at line (own_bytes n.what) (after 0 (suc i) (nodes_of file))
-          (subst (GoesOn file at line (own_bytes n.what)) (sym (node_step (nodes_of file) i walk_here))
-          (chain_goes_on file at line rest i n (at_node walk_here)))
+          subst (λ k. (k < length file) × Chain file (next_spot file k line).at (next_spot file k line).line (after 0 (suc i) (nodes_of file))) (walk_end ∙ sym f)
+          (goes_on_spot file at line (own_bytes node.what) (after 0 (suc i) (nodes_of file))
+          (subst (GoesOn file at line (own_bytes node.what)) (sym (node_step (nodes_of file) i walk_here))
+          (chain_goes_on file at line rest i node (at_node walk_here))))
 
       pub walk_within : end < length file
-      walk_within = omega (arith, goes_on.0, walk_end)
+      walk_within = goes_on.0
 
       pub walk_on : (s : Spot) → s ≡ next_spot file end line → Chain file s.at s.line (after 0 (i + 1) (nodes_of file))
-      walk_on s same =
-          let place : s ≡ next_spot file (at + own_bytes (node_at (nodes_of file) i).what) line = same ∙ ap (λ j. next_spot file j line) (e ∙ walk_end) in
-          let next : i + 1 ≡ suc i = add-one i in
-          rw next (subst (λ (t : Spot). Chain file t.at t.line (after 0 (suc i) (nodes_of file))) (sym place) goes_on.1)
-
-      pub walk_later : (s : Spot) → s ≡ next_spot file end line → at < s.at
-      walk_later s same = omega (arith, ap (λ (t : Spot). t.at) same, spot_forward file end line, walk_end, walk_forward)
+      walk_on s same = rw (add-one i) (subst (λ (t : Spot). Chain file t.at t.line (after 0 (suc i) (nodes_of file))) (sym same) goes_on.1)
 
     -- code 3 at the node after the last that is allowed
-    pub many_nodes : i ≡ most_nodes → code3 (entries_of file) ≡ Refused 3 line
+    pub many_nodes : i ≡ most_nodes → code3 (entries_of file) ≡ refused 3 line
     unfolding nodes_of when
-    many_nodes e =
+    many_nodes most =
         code3_node (entries_of file)
-        ∙ rw (lt-ltb most_nodes (count_nodes (nodes_of file)) (omega (arith, walk_here)), ← e, walk_line)
+        ∙ rw (lt-ltb most_nodes (count_nodes (nodes_of file)) (omega (arith, walk_here)), ← most, walk_line)
 
-  pub few_nodes : length file ≤ at → i ≤ most_nodes → code3 (entries_of file) ≡ Passed
+  pub few_nodes : i ≤ most_nodes → (o : Option Parsed) → o ≡ parsed_at file at → o ≡ None → code3 (entries_of file) ≡ passed
   unfolding nodes_of when
-  few_nodes over most = code3_node (entries_of file) ∙ rw (le-ltb most_nodes (count_nodes (nodes_of file)) (omega (arith, walk_over over)))
+  few_nodes most o e none = code3_node (entries_of file) ∙ rw (le-ltb most_nodes (count_nodes (nodes_of file)) (omega (arith, walk_over o e none)))

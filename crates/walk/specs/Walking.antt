@@ -1,18 +1,7 @@
 -- From a node to the next one in the file.
 use Rattle.std.specs.Prelude.{ℕ, ◌+◌, cond, List, get_or, eqb}
 use Rattle.infon.specs.Bytes.{space}
-use Rattle.spelling.specs.declared.Parsed.{Parsed}
-use Rattle.spelling.specs.declared.Parsed.TheVariants.{True, Name, And, Implies, Quoted, Bad}
 use Rattle.walk.specs.declared.Spot.{Spot}
-
--- the place behind a node's own bytes
-unfoldable pub behind_own : ℕ → Parsed → ℕ
-behind_own at True = at + 1
-behind_own at (Name end) = end
-behind_own at And = at + 1
-behind_own at Implies = at + 1
-behind_own at (Quoted said start end) = end
-behind_own at Bad = at + 1
 
 -- one byte behind a space, on the same line; three behind a line feed, on the line that starts behind it
 unfoldable pub next_spot : List ℕ → ℕ → ℕ → Spot

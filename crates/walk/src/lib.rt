@@ -1,13 +1,13 @@
 // The way from node to node through a file whose lines are well formed, and code 3.
 #![tactic(auto)]
 
-ghost use Rattle.std.specs.Prelude.{◌≡◌, ◌+◌, ◌^◌, ◌<◌, length};
-ghost use Rattle.infon.specs.declared.Verdict.TheVariants.{Passed};
+ghost use Rattle.std.specs.Prelude.{◌≡◌, ◌<◌, length};
+ghost use Rattle.infon.specs.Codes.{passed};
 ghost use Rattle.infon.specs.Policy.{entries_of, code2, code3};
-ghost use Rattle.walk.specs.Walking.{behind_own, next_spot};
+ghost use Rattle.walk.specs.Walking.{next_spot};
 
-use infon::Verdict;
-use spelling::Parsed;
+use infon::Refusal;
+use spelling::own_end;
 
 // Where a node begins, and where its line does.
 #[derive(Clone, Copy)]
@@ -16,26 +16,11 @@ pub struct Spot {
     pub line: usize,
 }
 
-// The place behind a node's own bytes: its letter, its name, or its letter with the principal.
-pub fn own_end(node: Parsed, at: usize) -> usize
-    requires { at + 1 < 2 ^ 64 }
-    ensures { result ≡ behind_own at node }
-{
-    match node {
-        Parsed::True => at + 1,
-        Parsed::Name { end } => end,
-        Parsed::And => at + 1,
-        Parsed::Implies => at + 1,
-        Parsed::Quoted {
-            said: _,
-            start: _,
-            end,
-        } => end,
-        Parsed::Bad => at + 1,
-    }
-}
+// The first node stands behind its line's letter and a space.
+pub const FIRST: Spot = Spot { at: 2, line: 0 };
 
 // Behind a space comes the next node of the same line; behind a line feed the next line's letter, a space and its first node.
+#[tactic(auto, unfolding(crate::specs::Walking::next_spot, infon::specs::Bytes::space))]
 pub fn next_spot(file: &[u8], end: usize, line: usize) -> Spot
     requires { end < length file.now }
     ensures { result ≡ next_spot file.now end line }
@@ -51,25 +36,23 @@ pub fn next_spot(file: &[u8], end: usize, line: usize) -> Spot
 }
 
 // Code 3: over 1,024 nodes in the file. Its place is the start of the line with node 1,025.
-pub fn too_many(file: &[u8]) -> Verdict
-    requires { code2 file.now ≡ Passed }
+pub fn too_many(file: &[u8]) -> Result<(), Refusal>
+    requires { code2 file.now ≡ passed }
     ensures { result ≡ code3 (entries_of file.now) }
 {
-    let mut at: usize = 2;
-    let mut line: usize = 0;
-    let mut count: usize = 0;
-    while at < file.len() {
-        if count == nodes::ROWS {
-            return Verdict::Refused {
-                code: 3,
-                place: line,
-            };
-        }
-        let end = own_end(spelling::node_at(file, at), at);
-        let next = next_spot(file, end, line);
-        at = next.at;
-        line = next.line;
-        count += 1;
+    let mut spot = FIRST;
+    for _ in 0..nodes::ROWS {
+        let Some(node) = spelling::node_at(file, spot.at) else {
+            return Ok(());
+        };
+        let end = own_end(node, spot.at);
+        spot = next_spot(file, end, spot.line);
     }
-    Verdict::Passed
+    match spelling::node_at(file, spot.at) {
+        None => Ok(()),
+        Some(_) => Err(Refusal {
+            code: 3,
+            place: spot.line,
+        }),
+    }
 }

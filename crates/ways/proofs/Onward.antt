@@ -3,7 +3,7 @@
 -- Assumes nothing.
 use Prim.Native.Nat.{ℕ, suc, ◌+◌, ◌-◌, ◌≤◌, ◌<◌}
 use mathlib.Core.Path.{◌≡◌, sym, ◌∙◌, ap}
-use mathlib.Core.Option.{Option, none, some}
+use Rattle.std.specs.Prelude.{Option, None, Some}
 use mathlib.Core.List.{List, ◌++◌, map}
 use native.Mathlib.Numerals.{add-one}
 use native.Mathlib.Omega.{arith}
@@ -15,11 +15,8 @@ use Rattle.infon.specs.Bytes.{first_of}
 use Rattle.infon.specs.Journal.{is_good, numbers_from, all_ways, records_for, all_records, next}
 use Rattle.formulas.specs.Tests.{good_in, Held}
 use Rattle.formulas.proofs.Given.{good_in_lem}
-use Rattle.ways.specs.declared.Least.{Least}
-use Rattle.ways.specs.declared.Least.TheVariants.{By, Missing}
 use Rattle.ways.specs.Search.{due_way_in, next_in}
 use Rattle.ways.proofs.Firsts.{nothing, alike_first, append_found, append_none, map_found, map_none}
-use Rattle.ways.proofs.Rulewise.{answer_by, answer_missing}
 
 -- the first good record for the numbers from f on
 unfoldable pub next_from : List ℕ → ℕ → List ℕ → ℕ → Option Record
@@ -39,17 +36,17 @@ module _ (t : List ℕ) (n : ℕ) (marks : List ℕ) where
   unfolding next_from numbers_from records_for
   block_first f h = let e : n - f ≡ suc (n - suc f) = omega arith in rw e
 
-  pub onward_found : (f : ℕ) {r : Least} {way : Way} → f < n → r ≡ due_way_in t n marks f → r ≡ By way
-      → next_from t n marks f ≡ some (record { formula = f; way = way })
+  pub onward_found : (f : ℕ) {r : Option Way} {way : Way} → f < n → r ≡ due_way_in t n marks f → r ≡ Some way
+      → next_from t n marks f ≡ Some (record { formula = f; way = way })
   unfolding due_way_in
   onward_found f {r} {way} h e due =
       let ways = all_ways (numbers_from 0 n) in
       block_first f h
       ∙ append_found (good_in t n marks) (block f) (records_for ways (numbers_from (suc f) (n - suc f)))
       (map_found (good_in t n marks) (λ (w : Way). record { formula = f; way = w }) ways
-      (answer_by (first_of (λ (w : Way). good_in t n marks (record { formula = f; way = w })) ways) e due))
+      (sym e ∙ due))
 
-  pub onward_goes_on : (f : ℕ) {r : Least} → f < n → r ≡ due_way_in t n marks f → r ≡ Missing
+  pub onward_goes_on : (f : ℕ) {r : Option Way} → f < n → r ≡ due_way_in t n marks f → r ≡ None
       → next_from t n marks f ≡ next_from t n marks (f + 1)
   unfolding due_way_in next_from
   onward_goes_on f {r} h e missing =
@@ -57,10 +54,10 @@ module _ (t : List ℕ) (n : ℕ) (marks : List ℕ) where
       block_first f h
       ∙ (append_none (good_in t n marks) (block f) (records_for ways (numbers_from (suc f) (n - suc f)))
       (map_none (good_in t n marks) (λ (w : Way). record { formula = f; way = w }) ways
-      (answer_missing (first_of (λ (w : Way). good_in t n marks (record { formula = f; way = w })) ways) e missing))
+      (sym e ∙ missing))
       ∙ ap (λ (g : ℕ). first_of (good_in t n marks) (records_for ways (numbers_from g (n - g)))) (sym (add-one f)))
 
-  pub onward_over : (f : ℕ) → n ≤ f → next_from t n marks f ≡ none
+  pub onward_over : (f : ℕ) → n ≤ f → next_from t n marks f ≡ None
   unfolding next_from numbers_from records_for
   onward_over f h = let e : n - f ≡ 0 = omega arith in rw e (nothing (good_in t n marks))
 

@@ -1,39 +1,37 @@
 -- Rules 6, 7 and 8: the least way of each, a law for each branch of the code.
 -- Assumes nothing.
-use Prim.Native.Nat.{ℕ, suc, ◌+◌, ◌≤◌, ◌<◌}
+use Prim.Native.Nat.{ℕ, suc, ◌≤◌, ◌<◌}
 use mathlib.Core.Path.{◌≡◌, refl, sym, ◌∙◌, ap, subst}
 use mathlib.Core.Logic.{◌⊎◌, inl, inr, ⊎_elim}
 use mathlib.Core.Bool.{Bool, true, false, cond, ◌&&◌, false≢true}
-use mathlib.Core.Option.{none, some}
+use Rattle.std.proofs.lemmas.Bool.{and_parts, and_from, cases_Bool, false_from_ne_true}
+use Rattle.std.specs.Prelude.{Option, None, Some, MatchOption, leb}
 use mathlib.Core.List.{List, map}
 use native.Mathlib.Nat.{eq-or-lt_of_le}
 use native.Mathlib.Omega.{arith}
-use lib.ListN.{get_or}
 use lib.Dec.{ltb, eqb}
-use borrow.Author.Tests.{eqb-true, eq-eqb, ne_eqb, ltb-true, ltb-false}
+use borrow.Author.Tests.{eqb-true, eq-eqb, ne_eqb, ltb-true, ltb-false, leb-true, leb-false, le-leb, lt-leb}
 use Rattle.infon.specs.declared.Way.{Way}
 use Rattle.infon.specs.declared.Way.TheVariants.{Both, Apply, Attach}
 use Rattle.infon.specs.Bytes.{first_of}
 use Rattle.infon.specs.Journal.{numbers_from}
-use Rattle.infon.proofs.Rows.{and_true, true_and, decided, not_true_false}
 use Rattle.formulas.specs.Table.{cell}
 use Rattle.formulas.specs.Tests.{is_marked, leads_to}
 use Rattle.formulas.proofs.Given.{marked_below}
-use Rattle.links.specs.Chains.{FirstFrom, ChainOf}
-use Rattle.ways.specs.declared.Least.TheVariants.{By, Missing}
-use Rattle.ways.specs.Search.{least_of, least_among, pairs_of, condition_in}
+use Rattle.links.specs.Chains.{FirstFrom, FoundFrom}
+use Rattle.ways.specs.Search.{least_among, pairs_of, condition_in, better_of}
 use Rattle.ways.proofs.Firsts.{pair_found, pair_none, map_found, map_none, found_first, none_first_lem}
 use Rattle.ways.proofs.Leads.{Parts, both_parts, both_leads, apply_parts, apply_leads, attach_parts, attach_leads, goes_on}
 
 pub found_among : (ways : List Way) (t : List ℕ) (n : ℕ) (marks : List ℕ) (f : ℕ) {way : Way}
-    → first_of (leads_to t n marks f) ways ≡ some way → By way ≡ least_among ways t n marks f
-unfolding least_among least_of
-found_among ways t n marks f h = rw h
+    → first_of (leads_to t n marks f) ways ≡ Some way → Some way ≡ least_among ways t n marks f
+unfolding least_among
+found_among ways t n marks f h = sym h
 
-pub none_among : (ways : List Way) (t : List ℕ) (n : ℕ) (marks : List ℕ) (f : ℕ) → first_of (leads_to t n marks f) ways ≡ none
-    → Missing ≡ least_among ways t n marks f
-unfolding least_among least_of
-none_among ways t n marks f h = rw h
+pub none_among : (ways : List Way) (t : List ℕ) (n : ℕ) (marks : List ℕ) (f : ℕ) → first_of (leads_to t n marks f) ways ≡ None
+    → None ≡ least_among ways t n marks f
+unfolding least_among
+none_among ways t n marks f h = sym h
 
 -- a number that was read is not another
 other_kind : {kind cell k : ℕ} → kind ≡ cell → (kind ≡ k → ⊥) → cell ≡ k → ⊥
@@ -42,17 +40,17 @@ other_kind e h same = h (e ∙ same)
 -- two marks that were tested together
 marked_two : (n : ℕ) (marks : List ℕ) (p q : ℕ) {r : Bool} → r ≡ is_marked n marks p && is_marked n marks q → r ≡ true
     → (is_marked n marks p ≡ true) × (is_marked n marks q ≡ true)
-marked_two n marks p q e h = and_true (is_marked n marks p) (is_marked n marks q) (sym e ∙ h)
+marked_two n marks p q e h = and_parts (is_marked n marks p) (is_marked n marks q) (sym e ∙ h)
 
 unmarked_two : (n : ℕ) (marks : List ℕ) (p q : ℕ) {r : Bool} → r ≡ is_marked n marks p && is_marked n marks q → r ≡ false
     → is_marked n marks p ≡ true → is_marked n marks q ≡ true → ⊥
-unmarked_two n marks p q e h first second = false≢true (sym h ∙ (e ∙ true_and first second))
+unmarked_two n marks p q e h first second = false≢true (sym h ∙ (e ∙ and_from _ _ first second))
 
 module _ (t : List ℕ) (n : ℕ) (marks : List ℕ) (f : ℕ) where
   -- rule 6
   pub both_found : {kind left right : ℕ} {r : Bool} → kind ≡ cell t 0 f → kind ≡ 2 → left ≡ cell t 2 f → right ≡ cell t 3 f
       → r ≡ is_marked n marks left && is_marked n marks right → r ≡ true
-      → By (Both left right) ≡ least_among (pairs_of Both n) t n marks f
+      → Some (Both left right) ≡ least_among (pairs_of Both n) t n marks f
   both_found {kind} {left} {right} k two l r tested passed =
       let marked = marked_two n marks left right tested passed in
       let parts : Parts t n marks f left right 2 f left right =
@@ -66,32 +64,32 @@ module _ (t : List ℕ) (n : ℕ) (marks : List ℕ) (f : ℕ) where
       found_among (pairs_of Both n) t n marks f
       (pair_found (leads_to t n marks f) Both n left right (marked_below n marks left marked.0)
       (marked_below n marks right marked.1) (both_leads t n marks f left right parts)
-      (λ p q less. not_true_false (leads_to t n marks f (Both p q)) (λ h. let e = (both_parts t n marks f p q h).left_is in omega arith))
+      (λ p q less. false_from_ne_true (leads_to t n marks f (Both p q)) (λ h. let e = (both_parts t n marks f p q h).left_is in omega arith))
       (λ q less.
-      not_true_false (leads_to t n marks f (Both left q)) (λ h. let e = (both_parts t n marks f left q h).right_is in omega arith)))
+      false_from_ne_true (leads_to t n marks f (Both left q)) (λ h. let e = (both_parts t n marks f left q h).right_is in omega arith)))
 
   pub both_unmarked : {left right : ℕ} {r : Bool} → left ≡ cell t 2 f → right ≡ cell t 3 f
-      → r ≡ is_marked n marks left && is_marked n marks right → r ≡ false → Missing ≡ least_among (pairs_of Both n) t n marks f
+      → r ≡ is_marked n marks left && is_marked n marks right → r ≡ false → None ≡ least_among (pairs_of Both n) t n marks f
   both_unmarked {left} {right} l r tested failed =
       none_among (pairs_of Both n) t n marks f
       (pair_none (leads_to t n marks f) Both n
       (λ p q.
-      not_true_false (leads_to t n marks f (Both p q))
+      false_from_ne_true (leads_to t n marks f (Both p q))
       (λ h.
       let parts = both_parts t n marks f p q h in
       unmarked_two n marks left right tested failed
       (subst (λ (x : ℕ). is_marked n marks x ≡ true) (sym parts.left_is ∙ sym l) parts.first_marked)
       (subst (λ (x : ℕ). is_marked n marks x ≡ true) (sym parts.right_is ∙ sym r) parts.second_marked))))
 
-  pub both_other : {kind : ℕ} → kind ≡ cell t 0 f → (kind ≡ 2 → ⊥) → Missing ≡ least_among (pairs_of Both n) t n marks f
+  pub both_other : {kind : ℕ} → kind ≡ cell t 0 f → (kind ≡ 2 → ⊥) → None ≡ least_among (pairs_of Both n) t n marks f
   both_other k two =
       none_among (pairs_of Both n) t n marks f
       (pair_none (leads_to t n marks f) Both n
-      (λ p q. not_true_false (leads_to t n marks f (Both p q)) (λ h. other_kind k two (both_parts t n marks f p q h).is_kind)))
+      (λ p q. false_from_ne_true (leads_to t n marks f (Both p q)) (λ h. other_kind k two (both_parts t n marks f p q h).is_kind)))
 
   -- rule 8
   pub attach_found : {kind p : ℕ} {r : Bool} → kind ≡ cell t 0 f → kind ≡ 3 → p ≡ cell t 3 f → r ≡ is_marked n marks p → r ≡ true
-      → By (Attach p) ≡ least_among (map Attach (numbers_from 0 n)) t n marks f
+      → Some (Attach p) ≡ least_among (map Attach (numbers_from 0 n)) t n marks f
   attach_found {kind} {p} k three right tested passed =
       let marked = sym tested ∙ passed in
       found_among (map Attach (numbers_from 0 n)) t n marks f
@@ -99,16 +97,16 @@ module _ (t : List ℕ) (n : ℕ) (marks : List ℕ) (f : ℕ) where
       (found_first (λ (q : ℕ). leads_to t n marks f (Attach q)) n p (marked_below n marks p marked)
       (attach_leads t n marks f p marked (sym k ∙ three) (sym right))
       (λ q less.
-      not_true_false (leads_to t n marks f (Attach q)) (λ h. let e = (attach_parts t n marks f q h).1.1 in omega arith))))
+      false_from_ne_true (leads_to t n marks f (Attach q)) (λ h. let e = (attach_parts t n marks f q h).1.1 in omega arith))))
 
   pub attach_unmarked : {p : ℕ} {r : Bool} → p ≡ cell t 3 f → r ≡ is_marked n marks p → r ≡ false
-      → Missing ≡ least_among (map Attach (numbers_from 0 n)) t n marks f
+      → None ≡ least_among (map Attach (numbers_from 0 n)) t n marks f
   attach_unmarked {p} right tested failed =
       none_among (map Attach (numbers_from 0 n)) t n marks f
       (map_none (leads_to t n marks f) Attach (numbers_from 0 n)
       (none_first_lem (λ (q : ℕ). leads_to t n marks f (Attach q)) n
       (λ q less.
-      not_true_false (leads_to t n marks f (Attach q))
+      false_from_ne_true (leads_to t n marks f (Attach q))
       (λ h.
       let parts = attach_parts t n marks f q h in
       false≢true
@@ -116,78 +114,89 @@ module _ (t : List ℕ) (n : ℕ) (marks : List ℕ) (f : ℕ) where
       ∙ (tested ∙ subst (λ (x : ℕ). is_marked n marks x ≡ true) (sym parts.1.1 ∙ sym right) parts.0))))))
 
   pub attach_other : {kind : ℕ} → kind ≡ cell t 0 f → (kind ≡ 3 → ⊥)
-      → Missing ≡ least_among (map Attach (numbers_from 0 n)) t n marks f
+      → None ≡ least_among (map Attach (numbers_from 0 n)) t n marks f
   attach_other k three =
       none_among (map Attach (numbers_from 0 n)) t n marks f
       (map_none (leads_to t n marks f) Attach (numbers_from 0 n)
       (none_first_lem (λ (q : ℕ). leads_to t n marks f (Attach q)) n
       (λ q less.
-      not_true_false (leads_to t n marks f (Attach q)) (λ h. other_kind k three (attach_parts t n marks f q h).1.0))))
+      false_from_ne_true (leads_to t n marks f (Attach q)) (λ h. other_kind k three (attach_parts t n marks f q h).1.0))))
 
 -- the condition that rule 7 finds at an implication
 module _ (t : List ℕ) (n : ℕ) (marks : List ℕ) (q : ℕ) where
   pub condition_found : {p : ℕ} → is_marked n marks q ≡ true → cell t 0 q ≡ 3 → p ≡ cell t 2 q → is_marked n marks p ≡ true
-      → p ≡ condition_in t n marks q
+      → Some p ≡ condition_in t n marks q
   unfolding condition_in
-  condition_found first kind left second =
+  condition_found {p} first kind left second =
       let there : is_marked n marks (cell t 2 q) ≡ true = subst (λ (x : ℕ). is_marked n marks x ≡ true) left second in
-      rw (first, eq-eqb (cell t 0 q) 3 kind, there) left
+      rw (first, eq-eqb (cell t 0 q) 3 kind, there) (ap (λ (x : ℕ). Some x) left)
 
-  pub condition_unmarked : {p : ℕ} → p ≡ cell t 2 q → is_marked n marks p ≡ false → n ≡ condition_in t n marks q
+  pub condition_unmarked : {p : ℕ} → p ≡ cell t 2 q → is_marked n marks p ≡ false → None ≡ condition_in t n marks q
   unfolding condition_in
   condition_unmarked left second =
       let there : is_marked n marks (cell t 2 q) ≡ false = subst (λ (x : ℕ). is_marked n marks x ≡ false) left second in
       rw there (neither (is_marked n marks q && eqb (cell t 0 q) 3))
     where
-      neither : (b : Bool) → n ≡ cond (b && false) (cell t 2 q) n
+      neither : (b : Bool) → None ≡ cond (b && false) (Some (cell t 2 q)) None
       neither true = refl
       neither false = refl
 
-  pub condition_other : is_marked n marks q ≡ true → (cell t 0 q ≡ 3 → ⊥) → n ≡ condition_in t n marks q
+  pub condition_other : is_marked n marks q ≡ true → (cell t 0 q ≡ 3 → ⊥) → None ≡ condition_in t n marks q
   unfolding condition_in
   condition_other first kind = rw (first, ne_eqb (cell t 0 q) 3 kind)
 
-  pub condition_free : is_marked n marks q ≡ false → n ≡ condition_in t n marks q
+  pub condition_free : is_marked n marks q ≡ false → None ≡ condition_in t n marks q
   unfolding condition_in
   condition_free first = rw first
 
   -- what a condition says of rule 7
-  condition_only : (p f : ℕ) → leads_to t n marks f (Apply p q) ≡ true → condition_in t n marks q ≡ p
+  condition_only : (p f : ℕ) → leads_to t n marks f (Apply p q) ≡ true → condition_in t n marks q ≡ Some p
   unfolding condition_in
   condition_only p f h =
       let parts = apply_parts t n marks f p q h in
       let there : is_marked n marks (cell t 2 q) ≡ true =
       subst (λ (x : ℕ). is_marked n marks x ≡ true) (sym parts.left_is) parts.first_marked in
-      rw (parts.second_marked, eq-eqb (cell t 0 q) 3 parts.is_kind, there) parts.left_is
+      rw (parts.second_marked, eq-eqb (cell t 0 q) 3 parts.is_kind, there) (ap (λ (x : ℕ). Some x) parts.left_is)
 
-  condition_good : (f : ℕ) → cell t 3 q ≡ f → condition_in t n marks q < n
-      → leads_to t n marks f (Apply (condition_in t n marks q) q) ≡ true
+  condition_good : (p f : ℕ) → cell t 3 q ≡ f → Some p ≡ condition_in t n marks q → leads_to t n marks f (Apply p q) ≡ true
   unfolding condition_in
-  condition_good f right less =
+  condition_good p f right e =
       ⊎_elim
       (λ (h : is_marked n marks q && eqb (cell t 0 q) 3 && is_marked n marks (cell t 2 q) ≡ true).
-      let outer = and_true (is_marked n marks q && eqb (cell t 0 q) 3) (is_marked n marks (cell t 2 q)) h in
-      let inner = and_true (is_marked n marks q) (eqb (cell t 0 q) 3) outer.0 in
-      rw h
-      (apply_leads t n marks f (cell t 2 q) q
+      let outer = and_parts (is_marked n marks q && eqb (cell t 0 q) 3) (is_marked n marks (cell t 2 q)) h in
+      let inner = and_parts (is_marked n marks q) (eqb (cell t 0 q) 3) outer.0 in
+      let found : ◌≡◌ {A = Option ℕ} (Some p) (Some (cell t 2 q)) = rw h at e in
+      let left : cell t 2 q ≡ p = cc in
+      apply_leads t n marks f p q
       (record {
-        first_marked = outer.1;
+        first_marked = subst (λ (x : ℕ). is_marked n marks x ≡ true) left outer.1;
         second_marked = inner.0;
         is_kind = eqb-true (cell t 0 q) 3 inner.1;
-        left_is = refl;
+        left_is = left;
         right_is = right;
-      })))
+      }))
       (λ (h : is_marked n marks q && eqb (cell t 0 q) 3 && is_marked n marks (cell t 2 q) ≡ false).
-      absurd (let out : n < n = rw h at less in omega arith))
-      (decided (is_marked n marks q && eqb (cell t 0 q) 3 && is_marked n marks (cell t 2 q)))
+      absurd (let none : ◌≡◌ {A = Option ℕ} (Some p) None = rw h at e in let z : ◌≡◌ {A = ℕ} 0 1 = cc in omega arith))
+      (cases_Bool (is_marked n marks q && eqb (cell t 0 q) 3 && is_marked n marks (cell t 2 q)))
 
--- The walk of rule 7 at q: no pair of premises that was passed comes before the best so far.
-pub record Best (t : List ℕ) (n : ℕ) (marks : List ℕ) (f first second q : ℕ) : Type 0 where
-  pub within : first ≤ n
-  pub earlier : first < n → second < q
-  pub good : first < n → leads_to t n marks f (Apply first second) ≡ true
+-- The best pair of premises before q: it leads to f, and no pair that does comes before it.
+pub record Pair (t : List ℕ) (n : ℕ) (marks : List ℕ) (f first second q : ℕ) : Type 0 where
+  pub earlier : second < q
+  pub good : leads_to t n marks f (Apply first second) ≡ true
   pub least : (p' q' : ℕ) → q' < q → leads_to t n marks f (Apply p' q') ≡ true → (first < p') ⊎ ((first ≡ p') × (second ≤ q'))
-  pub here : q < n → cell t 3 q ≡ f
+
+-- none before q
+abbrev pub NoPair : List ℕ → ℕ → List ℕ → ℕ → ℕ → Type 0
+NoPair t n marks f q = (p' q' : ℕ) → q' < q → leads_to t n marks f (Apply p' q') ≡ true → ⊥
+
+abbrev pub Best : List ℕ → ℕ → List ℕ → ℕ → Option (ℕ × ℕ) → ℕ → Type 0
+Best t n marks f None q = NoPair t n marks f q
+Best t n marks f (Some (first, second)) q = Pair t n marks f first second q
+
+-- The walk of rule 7 along the chain of f: the best pair before its place, which ends in f.
+abbrev pub Walking : List ℕ → ℕ → List ℕ → ℕ → Option (ℕ × ℕ) → Option ℕ → Type 0
+Walking t n marks f best None = Best t n marks f best n
+Walking t n marks f best (Some q) = (q < n) × ((cell t 3 q ≡ f) × Best t n marks f best q)
 
 module _ (t : List ℕ) (n : ℕ) (marks : List ℕ) (f : ℕ) where
   second_inside : (p q : ℕ) → leads_to t n marks f (Apply p q) ≡ true → q < n
@@ -196,20 +205,13 @@ module _ (t : List ℕ) (n : ℕ) (marks : List ℕ) (f : ℕ) where
   first_inside : (p q : ℕ) → leads_to t n marks f (Apply p q) ≡ true → p < n
   first_inside p q h = marked_below n marks p (apply_parts t n marks f p q h).first_marked
 
-  pub best_begins : (links : List ℕ) (at : ℕ) {q : ℕ} → ChainOf t 3 n links at → f < n → q ≡ get_or links (at + f) 0
-      → Best t n marks f n n q
-  best_begins links at {q} chain inside e =
-      let first : FirstFrom t 3 f n 0 q = rw e (chain.first f inside) in
-      record {
-        within = omega arith;
-        earlier = λ h. absurd (omega arith);
-        good = λ h. absurd (omega arith);
-        least =
-            λ p' q' less h.
-            absurd
-            (first.between q' (omega arith) less (second_inside p' q' h) (apply_parts t n marks f p' q' h).right_is);
-        here = λ h. (first.here h).1;
-      }
+  none_before : (place : ℕ) → FirstFrom t 3 f n 0 place → NoPair t n marks f place
+  none_before place first p' q' less h =
+      first.between q' (omega arith) less (second_inside p' q' h) (apply_parts t n marks f p' q' h).right_is
+
+  pub walking_begins : (at : Option ℕ) → FoundFrom t 3 f n 0 at → Walking t n marks f None at
+  walking_begins None found = none_before n found
+  walking_begins (Some q) found = (found.0, ((found.1.here found.0).1, none_before q found.1))
 
   -- pairs whose second premise lies before the next place lie before this one or at it
   up_to : (q q' after p' : ℕ) → FirstFrom t 3 f n (suc q) after → q' < after → leads_to t n marks f (Apply p' q') ≡ true
@@ -221,84 +223,164 @@ module _ (t : List ℕ) (n : ℕ) (marks : List ℕ) (f : ℕ) where
       (λ (more : q < q').
       absurd (first.between q' more less (second_inside p' q' h) (apply_parts t n marks f p' q' h).right_is))
       (eq-or-lt_of_le (ltb-false q' q high)))
-      (decided (ltb q' q))
+      (cases_Bool (ltb q' q))
 
-  at_place : (q q' p p' : ℕ) → q ≡ q' → p ≡ condition_in t n marks q → leads_to t n marks f (Apply p' q') ≡ true → p ≡ p'
-  at_place q q' p p' same e h =
+  at_place : (q q' p' : ℕ) {o : Option ℕ} → q ≡ q' → o ≡ condition_in t n marks q → leads_to t n marks f (Apply p' q') ≡ true → o ≡ Some p'
+  at_place q q' p' same e h =
       e ∙ (ap (condition_in t n marks) same ∙ condition_only t n marks q' p' f h)
 
-  pub best_taken : (first second q : ℕ) {p after : ℕ} → Best t n marks f first second q → q < n → p ≡ condition_in t n marks q
-      → p < first → FirstFrom t 3 f n (suc q) after → Best t n marks f p q after
-  best_taken first second q {p} {after} best inside e less next =
-      let on = goes_on t 3 f n q after inside next in
-      let room = best.within in
-      record {
-        within = omega arith;
-        earlier = λ h. on;
-        good =
-            λ h.
-            subst (λ (x : ℕ). leads_to t n marks f (Apply x q) ≡ true) (sym e)
-            (condition_good t n marks q f (best.here inside) (omega arith));
-        least =
-            λ p' q' before h.
-            ⊎_elim
-            (λ (low : q' < q).
-            inl
-            (⊎_elim (λ (l : first < p'). omega arith) (λ (s : (first ≡ p') × (second ≤ q')). omega arith) (best.least p' q' low h)))
-            (λ (same : q ≡ q'). inr (at_place q q' p p' same e h, omega arith))
-            (up_to q q' after p' next before h);
-        here = λ h. (next.here h).1;
-      }
+  same_place : (q q' p p' : ℕ) → q ≡ q' → Some p ≡ condition_in t n marks q → leads_to t n marks f (Apply p' q') ≡ true → p ≡ p'
+  same_place q q' p p' same e h = let there : ◌≡◌ {A = Option ℕ} (Some p) (Some p') = at_place q q' p' same e h in cc
 
-  pub best_kept : (first second q : ℕ) {p after : ℕ} → Best t n marks f first second q → q < n → p ≡ condition_in t n marks q
-      → first ≤ p → FirstFrom t 3 f n (suc q) after → Best t n marks f first second after
-  best_kept first second q {p} {after} best inside e more next =
-      let on = goes_on t 3 f n q after inside next in
-      record {
-        within = best.within;
-        earlier = λ h. let so = best.earlier h in omega arith;
-        good = best.good;
-        least =
-            λ p' q' before h.
-            ⊎_elim (λ (low : q' < q). best.least p' q' low h)
-            (λ (same : q ≡ q').
-            let there = at_place q q' p p' same e h in
-            let below = first_inside p' q' h in
-            ⊎_elim (λ (eq : first ≡ p). inr (eq ∙ there, let so = best.earlier (omega arith) in omega arith))
-            (λ (lt : first < p). inl (omega arith))
-            (eq-or-lt_of_le more))
-            (up_to q q' after p' next before h);
-        here = λ h. (next.here h).1;
-      }
+  module _ (q after : ℕ) (inside : q < n) (next : FirstFrom t 3 f n (suc q) after) where
+    on : q < after
+    on = goes_on t 3 f n q after inside next
 
-  pub best_found : (first second q : ℕ) → Best t n marks f first second q → n ≤ q → first < n
-      → By (Apply first second) ≡ least_among (pairs_of Apply n) t n marks f
-  best_found first second q best over less =
-      let good = best.good less in
+    -- an implication whose condition is not recorded, or that is none, changes nothing
+    passed : (best : Option (ℕ × ℕ)) → Best t n marks f best q → None ≡ condition_in t n marks q → Best t n marks f best after
+    passed None none e =
+        λ p' q' before h.
+        ⊎_elim (λ (low : q' < q). none p' q' low h)
+        (λ (same : q ≡ q').
+        let there : ◌≡◌ {A = Option ℕ} None (Some p') = at_place q q' p' same e h in
+        let z : ◌≡◌ {A = ℕ} 0 1 = cc in
+        absurd (omega arith))
+        (up_to q q' after p' next before h)
+    passed (Some (first, second)) pair e =
+        record {
+          earlier = let so = pair.earlier in let far = on in omega arith;
+          good = pair.good;
+          least =
+              λ p' q' before h.
+              ⊎_elim (λ (low : q' < q). pair.least p' q' low h)
+              (λ (same : q ≡ q').
+              let there : ◌≡◌ {A = Option ℕ} None (Some p') = at_place q q' p' same e h in
+              let z : ◌≡◌ {A = ℕ} 0 1 = cc in
+              absurd (omega arith))
+              (up_to q q' after p' next before h);
+        }
+
+    -- the first, or one with a smaller first premise, is taken
+    taken : (p : ℕ) → cell t 3 q ≡ f → Some p ≡ condition_in t n marks q
+        → ((p' q' : ℕ) → q' < q → leads_to t n marks f (Apply p' q') ≡ true → p < p') → Pair t n marks f p q after
+    taken p right e before =
+        record {
+          earlier = on;
+          good = condition_good t n marks q p f right e;
+          least =
+              λ p' q' less h.
+              ⊎_elim (λ (low : q' < q). inl (before p' q' low h))
+              (λ (same : q ≡ q'). inr (same_place q q' p p' same e h, omega arith))
+              (up_to q q' after p' next less h);
+        }
+
+    kept : (first second p : ℕ) → Pair t n marks f first second q → first ≤ p → Some p ≡ condition_in t n marks q
+        → Pair t n marks f first second after
+    kept first second p pair more e =
+        record {
+          earlier = let so = pair.earlier in let far = on in omega arith;
+          good = pair.good;
+          least =
+              λ p' q' before h.
+              ⊎_elim (λ (low : q' < q). pair.least p' q' low h)
+              (λ (same : q ≡ q').
+              let there = same_place q q' p p' same e h in
+              ⊎_elim (λ (eq : first ≡ p). inr (eq ∙ there, let so = pair.earlier in omega arith))
+              (λ (lt : first < p). inl (omega arith))
+              (eq-or-lt_of_le more))
+              (up_to q q' after p' next before h);
+        }
+
+    bettered : (best : Option (ℕ × ℕ)) (p : ℕ) → Best t n marks f best q → cell t 3 q ≡ f → Some p ≡ condition_in t n marks q
+        → Best t n marks f (better_of best p q) after
+    unfolding better_of
+    bettered None p none right e = taken p right e (λ p' q' low h. absurd (none p' q' low h))
+    bettered (Some (first, second)) p pair right e =
+        ⊎_elim (λ (more : leb first p ≡ true). rw more (kept first second p pair (leb-true first p more) e))
+        (λ (less : leb first p ≡ false).
+        let low = leb-false first p less in
+        rw less
+        (taken p right e
+        (λ p' q' low' h.
+        ⊎_elim (λ (l : first < p'). omega arith) (λ (s : (first ≡ p') × (second ≤ q')). omega arith) (pair.least p' q' low' h))))
+        (cases_Bool (leb first p))
+
+  -- the next of the chain is the first behind this one
+  behind : {q place : ℕ} → cell t 3 q ≡ f → FirstFrom t 3 (cell t 3 q) n (suc q) place → FirstFrom t 3 f n (suc q) place
+  behind {q} {place} right first = subst (λ (y : ℕ). FirstFrom t 3 y n (suc q) place) right first
+
+  turned : (best : Option (ℕ × ℕ)) (q p : ℕ) (at : Option ℕ) → Walking t n marks f best (Some q) → Some p ≡ condition_in t n marks q
+      → FoundFrom t 3 (cell t 3 q) n (suc q) at → Walking t n marks f (better_of best p q) at
+  turned best q p None walk e found = bettered q n walk.0 (behind walk.1.0 found) best p walk.1.1 walk.1.0 e
+  turned best q p (Some after) walk e found =
+      let next = behind walk.1.0 found.1 in
+      (found.0, ((next.here found.0).1, bettered q after walk.0 next best p walk.1.1 walk.1.0 e))
+
+  pub walking_turns : (best now : Option (ℕ × ℕ)) (was at : Option ℕ) (q p : ℕ) → Walking t n marks f best was → was ≡ Some q
+      → Some p ≡ condition_in t n marks q → now ≡ better_of best p q → FoundFrom t 3 (cell t 3 q) n (suc q) at
+      → Walking t n marks f now at
+  walking_turns best now was at q p walk e condition better found =
+      subst (λ (b : Option (ℕ × ℕ)). Walking t n marks f b at) (sym better)
+      (turned best q p at (subst (Walking t n marks f best) e walk) condition found)
+
+  passed_by : (best : Option (ℕ × ℕ)) (q : ℕ) (at : Option ℕ) → Walking t n marks f best (Some q) → None ≡ condition_in t n marks q
+      → FoundFrom t 3 (cell t 3 q) n (suc q) at → Walking t n marks f best at
+  passed_by best q None walk e found = passed q n walk.0 (behind walk.1.0 found) best walk.1.1 e
+  passed_by best q (Some after) walk e found =
+      let next = behind walk.1.0 found.1 in
+      (found.0, ((next.here found.0).1, passed q after walk.0 next best walk.1.1 e))
+
+  pub walking_passes : (best now : Option (ℕ × ℕ)) (was at : Option ℕ) (q : ℕ) → Walking t n marks f best was → was ≡ Some q
+      → None ≡ condition_in t n marks q → now ≡ best → FoundFrom t 3 (cell t 3 q) n (suc q) at → Walking t n marks f now at
+  walking_passes best now was at q walk e condition same found =
+      subst (λ (b : Option (ℕ × ℕ)). Walking t n marks f b at) (sym same)
+      (passed_by best q at (subst (Walking t n marks f best) e walk) condition found)
+
+  pub walking_inside : (best : Option (ℕ × ℕ)) (was : Option ℕ) {q : ℕ} → Walking t n marks f best was → was ≡ Some q → (q < n) × (cell t 3 q ≡ f)
+  walking_inside best was walk e = let here = subst (Walking t n marks f best) e walk in (here.0, here.1.0)
+
+  best_found : {first second : ℕ} → Walking t n marks f (Some (first, second)) None
+      → Some (Apply first second) ≡ least_among (pairs_of Apply n) t n marks f
+  best_found {first} {second} best =
       found_among (pairs_of Apply n) t n marks f
-      (pair_found (leads_to t n marks f) Apply n first second less (second_inside first second good) good
+      (pair_found (leads_to t n marks f) Apply n first second (first_inside first second best.good)
+      (second_inside first second best.good) best.good
       (λ p' q' below.
-      not_true_false (leads_to t n marks f (Apply p' q'))
+      false_from_ne_true (leads_to t n marks f (Apply p' q'))
       (λ h.
       let inside = second_inside p' q' h in
       ⊎_elim (λ (l : first < p'). omega arith) (λ (s : (first ≡ p') × (second ≤ q')). omega arith)
-      (best.least p' q' (omega arith) h)))
+      (best.least p' q' inside h)))
       (λ q' below.
-      not_true_false (leads_to t n marks f (Apply first q'))
+      false_from_ne_true (leads_to t n marks f (Apply first q'))
       (λ h.
       let inside = second_inside first q' h in
       ⊎_elim (λ (l : first < first). omega arith) (λ (s : (first ≡ first) × (second ≤ q')). omega arith)
-      (best.least first q' (omega arith) h))))
+      (best.least first q' inside h))))
 
-  pub best_none : (first second q : ℕ) → Best t n marks f first second q → n ≤ q → n ≤ first
-      → Missing ≡ least_among (pairs_of Apply n) t n marks f
-  best_none first second q best over more =
+  best_none : Walking t n marks f None None → None ≡ least_among (pairs_of Apply n) t n marks f
+  best_none none =
       none_among (pairs_of Apply n) t n marks f
       (pair_none (leads_to t n marks f) Apply n
-      (λ p' q'.
-      not_true_false (leads_to t n marks f (Apply p' q'))
-      (λ h.
-      let inside = second_inside p' q' h in
-      let below = first_inside p' q' h in
-      ⊎_elim (λ (l : first < p'). omega arith) (λ (s : (first ≡ p') × (second ≤ q')). omega arith)
-      (best.least p' q' (omega arith) h))))
+      (λ p' q'. false_from_ne_true (leads_to t n marks f (Apply p' q')) (λ h. none p' q' (second_inside p' q' h) h)))
+
+  pub walked_all : (best : Option (ℕ × ℕ)) (was : Option ℕ) (Post : ℕ × ℕ → Type 0) {r : Option Way} → Walking t n marks f best was → was ≡ None
+      → MatchOption best (r ≡ None) Post → ((p q : ℕ) → Post (p, q) → r ≡ Some (Apply p q))
+      → r ≡ least_among (pairs_of Apply n) t n marks f
+  walked_all None was Post walk e none pair = none ∙ best_none (subst (Walking t n marks f None) e walk)
+  walked_all (Some (first, second)) was Post walk e post pair =
+      pair first second post ∙ best_found (subst (Walking t n marks f (Some (first, second))) e walk)
+
+-- what the better of two pairs is
+pub better_kept : {best : Option (ℕ × ℕ)} {first second : ℕ} (p q : ℕ) → best ≡ Some (first, second) → first ≤ p → best ≡ better_of best p q
+unfolding better_of
+better_kept {first = first} p q e h = rw (e, le-leb first p h)
+
+pub better_taken : {best : Option (ℕ × ℕ)} {first second : ℕ} (p q : ℕ) → best ≡ Some (first, second) → p < first
+    → Some (p, q) ≡ better_of best p q
+unfolding better_of
+better_taken {first = first} p q e h = rw (e, lt-leb first p h)
+
+pub better_first : {best : Option (ℕ × ℕ)} (p q : ℕ) → best ≡ None → Some (p, q) ≡ better_of best p q
+unfolding better_of
+better_first p q e = rw e

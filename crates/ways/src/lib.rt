@@ -1,187 +1,175 @@
 // The least way to a formula, found along chains of formulas that share a part or a bottom.
 #![tactic(auto)]
 
-ghost use Rattle.std.specs.Prelude.{◌≡◌, ◌+◌, ◌<◌, ◌≤◌, map, length};
-ghost use Rattle.formulas.specs.Table.{table_rows, table_cells, table_columns};
-ghost use Rattle.infon.specs.declared.Way.TheVariants.{Weaken, Both, Apply, Attach};
+ghost use Rattle.std.specs.Prelude.{◌≡◌, ℕ, ◌<◌, ◌≤◌, List, [], ◌∷◌, map, length};
+ghost use Rattle.infon.specs.declared.Way.TheVariants.{Hypothesis, Given, Both, Apply, Attach};
 ghost use Rattle.infon.specs.Journal.{numbers_from};
-ghost use Rattle.links.specs.Chains.{chain_cells, ChainOf, Searchable};
-ghost use Rattle.ways.specs.Search.{least_premise, least_whole, least_among, pairs_of, last_ways, least_way_in, due_way_in, condition_in};
+ghost use Rattle.formulas.specs.Tests.{leads_to};
+ghost use Rattle.ways.specs.Search.{way_by, better_of, least_among, pairs_of, least_way_in, due_way_in, condition_in};
 
-use formulas::{BOTTOM, CONJUNCTION, HYPOTHESIS, IMPLICATION, KIND, LEFT, RIGHT, TRUTH};
+use formulas::{Column, Formulas, Kind};
 use infon::Way;
-use links::{BOTTOMS, LEFTS, NEXTS, RIGHTS};
+use links::{Chain, Search};
 
-// The answer of a search for a way.
-#[derive(Clone, Copy)]
-pub enum Least {
-    By(Way),
-    Missing,
+// Rules 1 and 2: f as a hypothesis or as `T`.
+fn at_once(list: Formulas, f: usize) -> Option<Way>
+    requires { f < list.n }
+    ensures { (marks : List ℕ) → result ≡ least_among (Hypothesis ∷ (Given ∷ [])) list.entry.table.now list.entry.n marks f }
+{
+    if list.at(Column::Hypothesis, f) == 1 {
+        Some(Way::Hypothesis)
+    } else if list.at(Column::Kind, f) == Kind::Truth as usize {
+        Some(Way::Given)
+    } else {
+        None
+    }
 }
 
-// Rule 3: the least recorded formula that weakens to f, n where there is none.
-fn stronger(table: &[u16], links: &[u16], marks: &[u8], n: usize, f: usize) -> usize
-    requires { Searchable table.now links.now marks.now n × (f < n) }
-    ensures { result ≡ least_premise Weaken table.now n marks.now f }
+// The way by the rule that a chain is for.
+fn way_by(chain: Chain, p: usize) -> Way
+    ensures { result ≡ way_by chain p }
 {
-    let x = formulas::cell_at(table, BOTTOM, f);
-    let mut p = links::linked_at(links, BOTTOMS + x);
-    while p < n {
-        if rules::is_marked(marks, n, p) {
-            if rules::weakens(table, p, f) {
-                return p;
-            }
-        }
-        p = links::linked_at(links, BOTTOMS + NEXTS + p);
+    match chain {
+        Chain::Left => Way::Left(p),
+        Chain::Right => Way::Right(p),
+        Chain::Bottom => Way::Weaken(p),
     }
-    n
 }
 
-// Rules 4 and 5: the least recorded conjunction with f as its left or its right part, as the column and its chains say; n where
-// there is none.
-fn whole_with(
-    table: &[u16],
-    links: &[u16],
-    marks: &[u8],
-    n: usize,
-    f: usize,
-    column: usize,
-    at: usize,
-) -> usize
-    requires { Searchable table.now links.now marks.now n × (f < n) × (column < table_columns) × (at + chain_cells ≤ length links.now)
-        × ChainOf table.now column n links.now at }
-    ensures { result ≡ least_whole column table.now n marks.now f }
+// Whether p is recorded and gives f by the rule that a chain is for.
+fn gives(list: Formulas, marks: &[u8], chain: Chain, p: usize, f: usize) -> bool
+    requires { (p < list.n) × (f < list.n) × (list.n ≤ length marks.now) }
+    ensures { result ≡ leads_to list.entry.table.now list.entry.n marks.now f (way_by chain p) }
 {
-    let mut p = links::linked_at(links, at + f);
-    while p < n {
-        if rules::is_marked(marks, n, p) {
-            if rules::has_part(table, CONJUNCTION, column, p, f) {
-                return p;
-            }
+    rules::is_marked(list, marks, p)
+        && match chain {
+            Chain::Left => rules::has_part(list, Kind::Conjunction, Column::Left, p, f),
+            Chain::Right => rules::has_part(list, Kind::Conjunction, Column::Right, p, f),
+            Chain::Bottom => rules::weakens(list, p, f),
         }
-        p = links::linked_at(links, at + NEXTS + p);
+}
+
+// Rules 3 to 5: f from the least recorded formula of its chain that gives it.
+fn along(search: Search, marks: &[u8], chain: Chain, f: usize) -> Option<Way>
+    requires { (f < search.list.n) × (search.list.n ≤ length marks.now) }
+    ensures { result ≡ least_among (map (way_by chain) (numbers_from 0 search.entry.list.n)) search.entry.list.table.now search.entry.list.n marks.now f }
+{
+    let mut at = search.first(chain, f);
+    while let Some(p) = at {
+        if gives(search.list, marks, chain, p, f) {
+            return Some(way_by(chain, p));
+        }
+        at = search.next(chain, p);
     }
-    n
+    None
 }
 
 // Rule 6: f from both its parts.
-fn combined(table: &[u16], marks: &[u8], n: usize, f: usize) -> Least
-    requires { (n ≤ table_rows) × (table_cells ≤ length table.now) × (n ≤ length marks.now) × (f < n) }
-    ensures { result ≡ least_among (pairs_of Both n) table.now n marks.now f }
+fn combined(list: Formulas, marks: &[u8], f: usize) -> Option<Way>
+    requires { (f < list.n) × (list.n ≤ length marks.now) }
+    ensures { result ≡ least_among (pairs_of Both list.entry.n) list.entry.table.now list.entry.n marks.now f }
 {
-    if formulas::cell_at(table, KIND, f) == CONJUNCTION {
-        let left = formulas::cell_at(table, LEFT, f);
-        let right = formulas::cell_at(table, RIGHT, f);
-        if rules::are_marked(marks, n, left, right) {
-            return Least::By(Way::Both(left, right));
+    if list.at(Column::Kind, f) == Kind::Conjunction as usize {
+        let left = list.at(Column::Left, f);
+        let right = list.at(Column::Right, f);
+        if rules::are_marked(list, marks, left, right) {
+            return Some(Way::Both(left, right));
         }
     }
-    Least::Missing
+    None
 }
 
-// The condition of a recorded implication that is recorded itself, n where q is none.
-fn condition(table: &[u16], marks: &[u8], n: usize, q: usize) -> usize
-    requires { (n ≤ table_rows) × (table_cells ≤ length table.now) × (n ≤ length marks.now) × (q < n) }
-    ensures { result ≡ condition_in table.now n marks.now q }
+// The condition of a recorded implication, if it is recorded itself.
+fn condition(list: Formulas, marks: &[u8], q: usize) -> Option<usize>
+    requires { (q < list.n) × (list.n ≤ length marks.now) }
+    ensures { result ≡ condition_in list.entry.table.now list.entry.n marks.now q }
 {
-    if rules::is_marked(marks, n, q) {
-        if formulas::cell_at(table, KIND, q) == IMPLICATION {
-            let p = formulas::cell_at(table, LEFT, q);
-            if rules::is_marked(marks, n, p) {
-                return p;
+    if rules::is_marked(list, marks, q) {
+        if list.at(Column::Kind, q) == Kind::Implication as usize {
+            let p = list.at(Column::Left, q);
+            if rules::is_marked(list, marks, p) {
+                return Some(p);
             }
         }
     }
-    n
+    None
+}
+
+// The least pair of premises, after an implication q whose condition is p.
+fn better(best: Option<(usize, usize)>, p: usize, q: usize) -> Option<(usize, usize)>
+    ensures { result ≡ better_of best p q }
+{
+    match best {
+        Some((first, _)) if first <= p => best,
+        _ => Some((p, q)),
+    }
 }
 
 // Rule 7: f from the least recorded condition of a recorded implication that ends in f, and the least such implication.
-fn applied(table: &[u16], links: &[u16], marks: &[u8], n: usize, f: usize) -> Least
-    requires { Searchable table.now links.now marks.now n × (f < n) }
-    ensures { result ≡ least_among (pairs_of Apply n) table.now n marks.now f }
+fn applied(search: Search, marks: &[u8], f: usize) -> Option<Way>
+    requires { (f < search.list.n) × (search.list.n ≤ length marks.now) }
+    ensures { result ≡ least_among (pairs_of Apply search.entry.list.n) search.entry.list.table.now search.entry.list.n marks.now f }
 {
-    let mut first = n;
-    let mut second = n;
-    let mut q = links::linked_at(links, RIGHTS + f);
-    while q < n {
-        let p = condition(table, marks, n, q);
-        if p < first {
-            first = p;
-            second = q;
+    let mut best = None;
+    let mut at = search.first(Chain::Right, f);
+    while let Some(q) = at {
+        if let Some(p) = condition(search.list, marks, q) {
+            best = better(best, p, q);
         }
-        q = links::linked_at(links, RIGHTS + NEXTS + q);
+        at = search.next(Chain::Right, q);
     }
-    if first < n {
-        Least::By(Way::Apply(first, second))
-    } else {
-        Least::Missing
-    }
+    best.map(|(p, q)| Way::Apply(p, q))
 }
 
 // Rule 8: f from its right part, where f is an implication.
-fn attached(table: &[u16], marks: &[u8], n: usize, f: usize) -> Least
-    requires { (n ≤ table_rows) × (table_cells ≤ length table.now) × (n ≤ length marks.now) × (f < n) }
-    ensures { result ≡ least_among (map Attach (numbers_from 0 n)) table.now n marks.now f }
+fn attached(list: Formulas, marks: &[u8], f: usize) -> Option<Way>
+    requires { (f < list.n) × (list.n ≤ length marks.now) }
+    ensures { result ≡ least_among (map Attach (numbers_from 0 list.entry.n)) list.entry.table.now list.entry.n marks.now f }
 {
-    if formulas::cell_at(table, KIND, f) == IMPLICATION {
-        let p = formulas::cell_at(table, RIGHT, f);
-        if rules::is_marked(marks, n, p) {
-            return Least::By(Way::Attach(p));
+    if list.at(Column::Kind, f) == Kind::Implication as usize {
+        let p = list.at(Column::Right, f);
+        if rules::is_marked(list, marks, p) {
+            return Some(Way::Attach(p));
         }
     }
-    Least::Missing
-}
-
-// Rules 6 to 8.
-fn from_parts(table: &[u16], links: &[u16], marks: &[u8], n: usize, f: usize) -> Least
-    requires { Searchable table.now links.now marks.now n × (f < n) }
-    ensures { result ≡ least_among (last_ways n) table.now n marks.now f }
-{
-    let both = combined(table, marks, n, f);
-    let Least::Missing = both else {
-        return both;
-    };
-    let apply = applied(table, links, marks, n, f);
-    let Least::Missing = apply else {
-        return apply;
-    };
-    attached(table, marks, n, f)
+    None
 }
 
 // The least way to f: the least rule, then the least first and the least second premise.
-fn least_way(table: &[u16], links: &[u16], marks: &[u8], n: usize, f: usize) -> Least
-    requires { Searchable table.now links.now marks.now n × (f < n) }
-    ensures { result ≡ least_way_in table.now n marks.now f }
+fn least_way(search: Search, marks: &[u8], f: usize) -> Option<Way>
+    requires { (f < search.list.n) × (search.list.n ≤ length marks.now) }
+    ensures { result ≡ least_way_in search.entry.list.table.now search.entry.list.n marks.now f }
 {
-    if formulas::cell_at(table, HYPOTHESIS, f) == 1 {
-        return Least::By(Way::Hypothesis);
+    // Not by `or_else`: what a closure over borrowed tables gives is not known behind it.
+    if let Some(way) = at_once(search.list, f) {
+        return Some(way);
     }
-    if formulas::cell_at(table, KIND, f) == TRUTH {
-        return Least::By(Way::Given);
+    if let Some(way) = along(search, marks, Chain::Bottom, f) {
+        return Some(way);
     }
-    let weaken = stronger(table, links, marks, n, f);
-    if weaken < n {
-        return Least::By(Way::Weaken(weaken));
+    if let Some(way) = along(search, marks, Chain::Left, f) {
+        return Some(way);
     }
-    let left = whole_with(table, links, marks, n, f, LEFT, LEFTS);
-    if left < n {
-        return Least::By(Way::Left(left));
+    if let Some(way) = along(search, marks, Chain::Right, f) {
+        return Some(way);
     }
-    let right = whole_with(table, links, marks, n, f, RIGHT, RIGHTS);
-    if right < n {
-        return Least::By(Way::Right(right));
+    if let Some(way) = combined(search.list, marks, f) {
+        return Some(way);
     }
-    from_parts(table, links, marks, n, f)
+    if let Some(way) = applied(search, marks, f) {
+        return Some(way);
+    }
+    attached(search.list, marks, f)
 }
 
 // The least way to f where f is not recorded yet.
-pub fn due_way(table: &[u16], links: &[u16], marks: &[u8], n: usize, f: usize) -> Least
-    requires { Searchable table.now links.now marks.now n × (f < n) }
-    ensures { result ≡ due_way_in table.now n marks.now f }
+pub fn due_way(search: Search, marks: &[u8], f: usize) -> Option<Way>
+    requires { (f < search.list.n) × (search.list.n ≤ length marks.now) }
+    ensures { result ≡ due_way_in search.entry.list.table.now search.entry.list.n marks.now f }
 {
-    if rules::is_marked(marks, n, f) {
-        Least::Missing
+    if rules::is_marked(search.list, marks, f) {
+        None
     } else {
-        least_way(table, links, marks, n, f)
+        least_way(search, marks, f)
     }
 }

@@ -1,7 +1,7 @@
+mod Named
 mod Waited
-mod Opened
+mod Parted
 mod Own
-mod Small
 mod Itemed
 mod Going
 mod Prefixing

@@ -8,7 +8,7 @@ use lib.ListN.{length, get_or, take, drop}
 use lib.Dec.{eqb}
 use Rattle.prefix.specs.declared.Place.{Place}
 use Rattle.prefix.specs.Places.{EachPlace, blank}
-use Rattle.prefix.proofs.Loops.{one_more, nothing_out, none_dropped}
+use Rattle.prefix.proofs.Loops.{one_more, nothing_out}
 use Rattle.twins.specs.Twins.{principal_text, Quoting}
 use Rattle.twins.proofs.Walks.{each_place}
 use Rattle.writing.specs.Placed.{PutSome}
@@ -27,11 +27,6 @@ module _ (file t : List ℕ) (puts : ℕ) (out₀ : List ℕ) (at : ℕ) (places
   unfolding bits_behind place_words
   prefix_begins =
       record { within = omega arith; bits_are = rw (nothing_out places count); begun = rw (nothing_out places count) (some_nothing at out₀) }
-
-  pub prefix_over : {out : List ℕ} {k bits end : ℕ} → Prefixed file t puts out₀ at places count out k bits end → k ≤ 0
-      → PutSome (place_words file t (take count places) puts) at out₀ end out
-  prefix_over {out} {k} {bits} {end} going none =
-      subst (λ (ps : List Place). PutSome (place_words file t ps puts) at out₀ end out) (none_dropped k (take count places) none) going.begun
 
   module _ (fits : count ≤ length places) {out : List ℕ} {k bits end : ℕ} (going : Prefixed file t puts out₀ at places count out k bits end) (more : 0 < k) where
     pub place_quoting : EachPlace (Quoting file t) (take count places) → Quoting file t (get_or places (k - 1) blank).node

@@ -1,9 +1,8 @@
 -- What a node and put places tell of a formula is all of its words.
 -- Assumes nothing.
-use Prim.Native.Nat.{ℕ, zero, suc, ◌+◌, ◌*◌, ◌^◌, ◌≤◌}
+use Prim.Native.Nat.{ℕ, ◌+◌, ◌*◌, ◌^◌, ◌≤◌}
 use native.Mathlib.Nat.{zero-mul, add-zero}
 use mathlib.Core.Path.{◌≡◌, refl, sym, ◌∙◌, ap, ap₂}
-use mathlib.Core.Bool.{true}
 use mathlib.Core.List.{List, [], ◌∷◌, ◌++◌, nil≢cons, cons≢nil, head-eq_of_cons-eq, tail-eq_of_cons-eq}
 use lib.ListN.{length}
 use Rattle.infon.specs.Formula.{Quotation, Formula}
@@ -21,24 +20,12 @@ use Rattle.twins.proofs.Texts.{principal_text_lem}
 use Rattle.writing.specs.Placed.{PutSome}
 use Rattle.writing.proofs.Placing.{some_on, some_as}
 use Rattle.wording.specs.Words.{bracketed, in_words}
-use Rattle.wording.specs.Waiting.{needs_brackets, is_formula, item_text}
+use Rattle.wording.specs.declared.Brackets.{Brackets}
+use Rattle.wording.specs.declared.Item.TheVariants as Of
+use Rattle.wording.specs.Waiting.{needs_brackets, item_text}
 use Rattle.wording.specs.Prefixed.{place_words, around_by}
 use Rattle.prefix.specs.Told.{ToldBy}
 use Rattle.wording.proofs.Prefixing.{prefix_words, behind_words, SameWho, places_words}
-
-pub around_none : (n : ℕ) → n ≡ 0 → 0 ≡ around_by n
-unfolding around_by
-around_none n e = rw e
-
-pub around_some : (n : ℕ) → (n ≡ 0 → ⊥) → 2 ≡ around_by n
-unfolding around_by
-around_some zero some = absurd (some refl)
-around_some (suc n) some = refl
-
-pub around_formula : (n : ℕ) → is_formula (around_by n) ≡ true
-unfolding around_by
-around_formula zero = refl
-around_formula (suc n) = refl
 
 module _ (file t : List ℕ) where
   abbrev row : List Node
@@ -76,13 +63,13 @@ module _ (file t : List ℕ) where
         depth_cell file t told.held b told.below
         ∙ (sym (all_put_length (node_at row b).pre) ∙ (ap length (sym told.principals) ∙ all_put_length w))
 
-    whole : (v : Prefix) → w ≡ v → in_words x ≡ prefix_words v ++ item_text row (around_by (length v)) b
+    whole : (v : Prefix) → w ≡ v → in_words x ≡ prefix_words v ++ item_text row (Of.Formula (around_by (length v)) b)
     unfolding item_text needs_brackets around_by prefix_words wrap bracketed
     whole [] e = ap in_words (sym (wrap_core [] x) ∙ ap₂ wrap e told.core)
     whole (q ∷ outer) e = ap in_words (sym (wrap_core [] x) ∙ ap₂ wrap e told.core) ∙ behind_words q outer (node_at row b).what
 
-    pub told_words : {behind end : ℕ} {out₀ out₁ out₂ : List ℕ} {at : ℕ} {how : ℕ} → at ≤ length out₀ → how ≡ around_by (prefix_at t b).count
-        → PutSome (place_words file t ps puts) at out₀ behind out₁ → PutSome (item_text row how b) behind out₁ end out₂ → PutSome (in_words x) at out₀ end out₂
+    pub told_words : {behind end : ℕ} {out₀ out₁ out₂ : List ℕ} {at : ℕ} {how : Brackets} → at ≤ length out₀ → how ≡ around_by (prefix_at t b).count
+        → PutSome (place_words file t ps puts) at out₀ behind out₁ → PutSome (item_text row (Of.Formula how b)) behind out₁ end out₂ → PutSome (in_words x) at out₀ end out₂
     told_words inside around first second =
-        some_as (ap₂ (λ (one two : List ℕ). one ++ two) places_are (ap (λ (n : ℕ). item_text row n b) (around ∙ ap around_by count_is)) ∙ sym (whole w refl))
+        some_as (ap₂ (λ (one two : List ℕ). one ++ two) places_are (ap (λ (n : Brackets). item_text row (Of.Formula n b)) (around ∙ ap around_by count_is)) ∙ sym (whole w refl))
         (some_on first second inside)

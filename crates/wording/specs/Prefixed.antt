@@ -4,6 +4,8 @@ use Rattle.infon.specs.Formula.{Formula}
 use Rattle.prefix.specs.declared.Place.{Place}
 use Rattle.prefix.specs.Told.{ToldBy}
 use Rattle.twins.specs.Twins.{principal_text}
+use Rattle.wording.specs.declared.Brackets.{Brackets}
+use Rattle.wording.specs.declared.Brackets.TheVariants.{Never, AroundParts}
 use Rattle.wording.specs.Words.{said_word}
 
 -- the bits that are left when so many places have taken theirs
@@ -18,9 +20,9 @@ place_words file t (q ∷ outer) puts =
     place_words file t outer puts ++ (principal_text file t q.node ++ said_word (eqb (bits_behind (length outer) puts % 2) 0))
 
 -- how what stands behind so many quotations gets brackets
-unfoldable pub around_by : ℕ → ℕ
-around_by zero = 0
-around_by (suc k) = 2
+unfoldable pub around_by : ℕ → Brackets
+around_by zero = Never
+around_by (suc k) = AroundParts
 
 -- There is one.
 pub record Tellable (file t : List ℕ) (b puts : ℕ) (out : List ℕ) (at : ℕ) : Type 0 where

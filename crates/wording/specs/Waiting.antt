@@ -1,63 +1,58 @@
--- How the words are written without going back: what is still to be written waits in a row, what comes next at its end. An item is a
--- formula, by its node's number and by where brackets are needed around it, or a word between formulas.
-use Rattle.std.specs.Prelude.{ℕ, zero, suc, ◌+◌, ◌*◌, ◌≤◌, ◌<◌, ◌≡◌, Bool, true, false, cond, List, [], ◌++◌, length, get_or, ltb, eqb}
+-- How the words are written without going back: what is still to be written waits, the next item first. An item is a formula, by where
+-- brackets are needed around it and by its node's number, or a word between formulas.
+use Rattle.std.specs.Prelude.{ℕ, suc, ◌+◌, ◌*◌, ◌≤◌, ◌<◌, ◌≡◌, Bool, false, List, [], ◌∷◌, ◌++◌, length}
 use Rattle.infon.specs.Bytes.{bytes}
 use Rattle.infon.specs.Formula.{Formula, True, name, and, implies, quoted, nodes}
-use Rattle.nodes.specs.Nodes.{Node, node_at, count_nodes, nodes_of, NodesHeld}
+use Rattle.nodes.specs.Nodes.{Node, node_at, count_nodes, nodes_of}
 use Rattle.writing.specs.Placed.{PutSome}
-use Rattle.wording.specs.declared.Progress.{Progress}
-use Rattle.wording.specs.declared.Pair.{Pair}
+use Rattle.wording.specs.declared.Brackets.{Brackets}
+use Rattle.wording.specs.declared.Brackets.TheVariants.{Never, AroundRules, AroundParts}
+use Rattle.wording.specs.declared.Word.{Word}
+use Rattle.wording.specs.declared.Word.TheVariants.{And, Then, Close}
 use Rattle.wording.specs.declared.Item.{Item}
+use Rattle.wording.specs.declared.Item.TheVariants as Of
 use Rattle.wording.specs.Words.{is_rule, has_parts, bracketed, told_word, in_words}
 
--- the words between formulas, by number: 0 and 1 join two parts, any other closes a bracket
-unfoldable pub between_word : ℕ → List ℕ
-between_word zero = bytes " and "
-between_word (suc zero) = bytes " then "
-between_word (suc (suc k)) = bytes ")"
+unfoldable pub between_word : Word → List ℕ
+between_word And = bytes " and "
+between_word Then = bytes " then "
+between_word Close = bytes ")"
 
--- how a formula waits: 0, it gets no brackets; 1, it gets them where it is a rule; 2, where it has parts
-unfoldable pub needs_brackets : ℕ → Formula → Bool
-needs_brackets zero x = false
-needs_brackets (suc zero) x = is_rule x
-needs_brackets (suc (suc k)) x = has_parts x
+unfoldable pub needs_brackets : Brackets → Formula → Bool
+needs_brackets Never x = false
+needs_brackets AroundRules x = is_rule x
+needs_brackets AroundParts x = has_parts x
 
--- from 3 on it is a word that waits
-abbrev pub is_formula : ℕ → Bool
-is_formula how = ltb how 3
+-- a formula that waits is one of the file's
+abbrev pub IsThere : List Node → Item → Type 0
+IsThere row (Of.Formula around i) = i < count_nodes row
+IsThere row (Of.Word word) = Unit {0}
 
--- what waits at a place
-abbrev pub item_at : List ℕ → List ℕ → ℕ → Item
-item_at hows whos k = record { how = get_or hows k 0; who = get_or whos k 0 }
-
-unfoldable pub item_text : List Node → ℕ → ℕ → List ℕ
-item_text row how i =
-    let x = (node_at row i).what in
-    cond (is_formula how) (bracketed (needs_brackets how x) (in_words x)) (between_word i)
-
--- what the first so many items come to, the last of them first
-unfoldable pub waiting_text : List Node → List ℕ → List ℕ → ℕ → List ℕ
-waiting_text row hows whos zero = []
-waiting_text row hows whos (suc k) = item_text row (get_or hows k 0) (get_or whos k 0) ++ waiting_text row hows whos k
+unfoldable pub item_text : List Node → Item → List ℕ
+item_text row (Of.Formula around i) = let x = (node_at row i).what in bracketed (needs_brackets around x) (in_words x)
+item_text row (Of.Word word) = between_word word
 
 -- How many places an item may come to need: three for each node, one for a word.
-unfoldable pub item_weight : List Node → ℕ → ℕ → ℕ
-item_weight row how i = cond (is_formula how) (3 * nodes (node_at row i).what) 1
+unfoldable pub item_weight : List Node → Item → ℕ
+item_weight row (Of.Formula around i) = 3 * nodes (node_at row i).what
+item_weight row (Of.Word word) = 1
 
-unfoldable pub waiting_weight : List Node → List ℕ → List ℕ → ℕ → ℕ
-waiting_weight row hows whos zero = 0
-waiting_weight row hows whos (suc k) = item_weight row (get_or hows k 0) (get_or whos k 0) + waiting_weight row hows whos k
+-- the same of all that waits
+abbrev pub EachThere : List Node → List Item → Type 0
+EachThere row [] = Unit {0}
+EachThere row (item ∷ rest) = IsThere row item × EachThere row rest
+
+unfoldable pub waiting_text : List Node → List Item → List ℕ
+waiting_text row [] = []
+waiting_text row (item ∷ rest) = item_text row item ++ waiting_text row rest
+
+unfoldable pub waiting_weight : List Node → List Item → ℕ
+waiting_weight row [] = 0
+waiting_weight row (item ∷ rest) = item_weight row item + waiting_weight row rest
 
 -- room for all that a formula of 1,024 nodes can have waiting
 abbrev pub waiting_room : ℕ
 waiting_room = 3072
-
--- What a row of waiting items is: those that are formulas are so by nodes, and there is room for all that comes of them.
-pub record Waiting (row : List Node) (hows whos : List ℕ) (top : ℕ) : Type 0 where
-  pub hows_long : length hows ≡ waiting_room
-  pub whos_long : length whos ≡ waiting_room
-  pub items : (k : ℕ) → k < top → ltb (get_or hows k 0) 3 ≡ true → get_or whos k 0 < count_nodes row
-  pub room : waiting_weight row hows whos top ≤ waiting_room
 
 -- A formula in words is what it begins with, and behind that its parts.
 unfoldable pub own_words : Formula → List ℕ
@@ -67,24 +62,24 @@ own_words (and x y) = []
 own_words (implies x y) = bytes "if "
 own_words (quoted q x) = q.principal ++ told_word q.told
 
--- the two parts of a conjunction, kind 2, or of a rule, and the word between them
-unfoldable pub pair_of : ℕ → ℕ → ℕ → Pair
-pair_of kind first second =
-    cond (eqb kind 2) (record { how = 2; first = first; word = 0; after = 1; second = second })
-    (record { how = 1; first = first; word = 1; after = 0; second = second })
+-- the parts of a formula that begins at node i, with the word between them
+unfoldable pub part_items : ℕ → Formula → List Item
+part_items i True = []
+part_items i (name a) = []
+part_items i (and x y) = Of.Formula AroundParts (suc i) ∷ (Of.Word And ∷ (Of.Formula AroundRules (suc i + nodes x) ∷ []))
+part_items i (implies x y) = Of.Formula AroundRules (suc i) ∷ (Of.Word Then ∷ (Of.Formula Never (suc i + nodes x) ∷ []))
+part_items i (quoted q x) = Of.Formula AroundParts (suc i) ∷ []
 
--- What is asked where something is written before all that waits, and may come to need so many places: the node table is at hand, and
--- there is room.
-pub record Ready (file t hows whos : List ℕ) (top weight : ℕ) (out : List ℕ) (at : ℕ) : Type 0 where
-  pub held : NodesHeld file t
-  pub waiting : Waiting (nodes_of file) hows whos top
-  pub room : weight + waiting_weight (nodes_of file) hows whos top ≤ waiting_room
+-- What is asked where something is written before all that waits, and may come to need so many places: there is room.
+pub record Ready (file : List ℕ) (weight : ℕ) (items : List Item) (out : List ℕ) (at : ℕ) : Type 0 where
+  pub there : EachThere (nodes_of file) items
+  pub room : weight + waiting_weight (nodes_of file) items ≤ waiting_room
   pub inside : at ≤ length out
 
 -- What writing a text before all that waits comes to: some of it is put, the rest waits, and fewer places may come to be needed.
-pub record Writes (file text : List ℕ) (weight : ℕ) (hows whos : List ℕ) (top : ℕ) (out : List ℕ) (at : ℕ) (hows' whos' out' : List ℕ) (r : Progress) : Type 0 where
+pub record Writes (file text : List ℕ) (weight : ℕ) (items : List Item) (out : List ℕ) (at : ℕ) (items' : List Item) (out' : List ℕ) (end : ℕ) : Type 0 where
   pub begun : List ℕ
-  pub puts : PutSome begun at out r.at out'
-  pub waiting : Waiting (nodes_of file) hows' whos' r.top
-  pub rest : text ++ waiting_text (nodes_of file) hows whos top ≡ begun ++ waiting_text (nodes_of file) hows' whos' r.top
-  pub less : waiting_weight (nodes_of file) hows' whos' r.top < weight + waiting_weight (nodes_of file) hows whos top
+  pub puts : PutSome begun at out end out'
+  pub there : EachThere (nodes_of file) items'
+  pub rest : text ++ waiting_text (nodes_of file) items ≡ begun ++ waiting_text (nodes_of file) items'
+  pub less : waiting_weight (nodes_of file) items' < weight + waiting_weight (nodes_of file) items

@@ -4,7 +4,6 @@ use Prim.Native.Nat.{ℕ}
 use mathlib.Core.Path.{◌≡◌, refl, sym, ◌∙◌, ap, ap₂}
 use mathlib.Core.Bool.{Bool, true}
 use mathlib.Core.List.{List, [], ◌∷◌, map, map-map, Memᴰ}
-use lib.ListN.{length, take}
 use Rattle.infon.specs.declared.Record.{Record}
 use Rattle.infon.specs.Formula.{Formula}
 use Rattle.infon.specs.Listing.{is_listed}
@@ -22,9 +21,9 @@ map_same f g (x ∷ xs) each = ap₂ (λ y ys. y ∷ ys) (each x (Memᴰ.head re
 module _ (hyps fs : List Formula) (done : List Record) (t : List ℕ) (n : ℕ) (marks : List ℕ) (held : Held hyps fs done t n marks) where
   -- the answers by marks, for queries given by their numbers
   pub answered : (queries : List Formula) (numbers : List ℕ) (finished : Bool)
-      → ((x : Formula) → Memᴰ x queries → is_listed x fs ≡ true) → take (length queries) numbers ≡ map (number_in fs) queries
+      → ((x : Formula) → Memᴰ x queries → is_listed x fs ≡ true) → numbers ≡ map (number_in fs) queries
       → finished ≡ is_finished hyps fs done
-      → answered_bytes numbers (length queries) marks finished ≡ map answer_byte (answers_of hyps fs done queries)
+      → answered_bytes numbers marks finished ≡ map answer_byte (answers_of hyps fs done queries)
   unfolding answered_bytes answers_of answer_at
   answered queries numbers finished listed are ends =
       ap (map (answer_at marks finished)) are

@@ -8,9 +8,7 @@ use lib.ListN.{length}
 use lib.Dec.{ltb}
 use borrow.Author.Tests.{le-ltb}
 use Rattle.infon.specs.declared.Report.{Report}
-use Rattle.infon.specs.declared.Verdict.{Verdict}
-use Rattle.infon.specs.declared.Verdict.TheVariants.{Passed, Refused}
-use Rattle.infon.specs.Codes.{and_then, tried, settled}
+use Rattle.infon.specs.Codes.{and_then, tried, settled, Verdict, passed, refused}
 use Rattle.infon.specs.Journal.{record_bytes}
 use Rattle.infon.specs.Run.{file_codes, file_verdict, code6, code7, code8, code9, Outcome, refusal, success, run}
 use Rattle.infon.proofs.Tried.{when_false, and_then_end, pass_on, stop_at, tried_append}
@@ -48,13 +46,13 @@ module _ (file journal : List ℕ) (used limit : ℕ) (answers : List ℕ) where
       (tried_append entries (three ++ (last ∷ []))
       ∙ ap (and_then (tried entries)) (tried_append three (last ∷ []) ∙ ap (and_then (tried three)) (and_then_end last)))
 
-  pub file_refused : (code place : ℕ) → file_verdict file ≡ Refused code place
+  pub file_refused : (code place : ℕ) → file_verdict file ≡ refused code place
       → run file journal used limit answers ≡ refusal code place used journal answers
   unfolding settled
   file_refused code place h = run_is ∙ rw (stop_at h (and_then sizes ninth))
 
-  pub sizes_refused : (code place : ℕ) → file_verdict file ≡ Passed
-      → tried (size_codes (length journal) (length (list_in file)) used (length answers) (length (queries_in file))) ≡ Refused code place
+  pub sizes_refused : (code place : ℕ) → file_verdict file ≡ passed
+      → tried (size_codes (length journal) (length (list_in file)) used (length answers) (length (queries_in file))) ≡ refused code place
       → run file journal used limit answers ≡ refusal code place used journal answers
   unfolding settled sizes
   sizes_refused code place pass h = run_is ∙ rw (pass_on pass (and_then sizes ninth), stop_at h ninth)
@@ -66,8 +64,8 @@ module _ (file journal : List ℕ) (used limit : ℕ) (answers : List ℕ) where
       let all = grown_short (hypotheses_in file) (list_in file) (kept_part file journal used) (kept_is_such_a_row file journal used).0 limit in
       omega arith
 
-  pub succeeded : file_verdict file ≡ Passed
-      → tried (size_codes (length journal) (length (list_in file)) used (length answers) (length (queries_in file))) ≡ Passed
+  pub succeeded : file_verdict file ≡ passed
+      → tried (size_codes (length journal) (length (list_in file)) used (length answers) (length (queries_in file))) ≡ passed
       → run file journal used limit answers
       ≡ success (hypotheses_in file) (list_in file) (queries_in file) (kept_part file journal used) (added_part file journal used limit) journal answers
   unfolding settled sizes ninth code9 outcome

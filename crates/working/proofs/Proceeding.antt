@@ -1,48 +1,39 @@
 -- Codes 6 to 8, and then the work.
 -- Assumes nothing.
-use Prim.Native.Nat.{ℕ, ◌≤◌}
+use Prim.Native.Nat.{ℕ}
 use mathlib.Core.Path.{◌≡◌, sym, ◌∙◌, ap₂}
 use mathlib.Core.List.{List, []}
 use lib.ListN.{length}
 use Rattle.infon.specs.declared.Report.{Report}
-use Rattle.infon.specs.declared.Verdict.{Verdict}
-use Rattle.infon.specs.declared.Verdict.TheVariants.{Passed, Refused}
-use Rattle.infon.specs.Codes.{tried}
+use Rattle.infon.specs.Codes.{tried, Verdict, passed, refused}
 use Rattle.infon.specs.Policy.{entries_of, hypotheses_of, queries_of}
 use Rattle.infon.specs.Listing.{list_of}
 use Rattle.infon.specs.Run.{refusal}
-use Rattle.formulas.specs.Table.{table_rows}
 use Rattle.formulas.specs.Prepared.{PreparedFor}
 use Rattle.sizes.specs.Sizes.{size_codes}
 use Rattle.sizes.proofs.Sizes.{sizes_pass}
 use Rattle.working.specs.Working.{Workable, Works, Acceptable, Proceeds}
-use Rattle.journal.proofs.Prepared.{few}
 use Rattle.working.proofs.Outcomes.{left_refused, sizes_refused, succeeded}
 
-pub acceptable_few : (t : List ℕ) (n : ℕ) (numbers : List ℕ) (asked : ℕ) → Acceptable t n numbers asked → n ≤ table_rows
-acceptable_few t n numbers asked some =
-    few (hypotheses_of (entries_of some.file)) (list_of (entries_of some.file)) (queries_of (entries_of some.file)) t n numbers asked
-    some.for_file.prepared
-
-module _ (t : List ℕ) (n : ℕ) (numbers : List ℕ) (asked : ℕ) (journal : List ℕ) (used limit : ℕ) (answers : List ℕ) (sizes : Verdict)
-    (is : sizes ≡ tried (size_codes (length journal) n used (length answers) asked)) where
+module _ (t : List ℕ) (n : ℕ) (numbers journal : List ℕ) (used limit : ℕ) (answers : List ℕ) {sizes : Verdict}
+    (is : sizes ≡ tried (size_codes (length journal) n used (length answers) (length numbers))) where
   -- the sizes of a file that is prepared so
-  of_file : (file : List ℕ) → PreparedFor file t n numbers asked
+  of_file : (file : List ℕ) → PreparedFor file t n numbers (length numbers)
       → sizes ≡ tried (size_codes (length journal) (length (list_of (entries_of file))) used (length answers) (length (queries_of (entries_of file))))
   of_file file for =
       is
       ∙ ap₂ (λ (l q : ℕ). tried (size_codes (length journal) l used (length answers) q)) (sym for.prepared.count) (sym for.prepared.asked_are)
 
-  pub refused_by_size : {code place : ℕ} → sizes ≡ Refused code place → (report : Report) → report ≡ (refusal code place used [] []).report
-      → Proceeds t n numbers asked journal used limit answers report journal answers
+  pub refused_by_size : {code place : ℕ} → sizes ≡ refused code place → (report : Report) → report ≡ (refusal code place used [] []).report
+      → Proceeds t n numbers journal used limit answers report journal answers
   refused_by_size {code} {place} h report e file for =
       left_refused code place used journal answers report e
       ∙ sym (sizes_refused file journal used limit answers code place for.accepted (sym (of_file file for) ∙ h))
 
-  module _ (pass : sizes ≡ Passed) where
-    pub workable : Acceptable t n numbers asked → Workable t n numbers asked journal used answers
+  module _ (pass : sizes ≡ passed) where
+    pub workable : Acceptable t n numbers → Workable t n numbers journal used answers
     workable some =
-        let fits = sizes_pass (length journal) n used (length answers) asked (sym is ∙ pass) in
+        let fits = sizes_pass (length journal) n used (length answers) (length numbers) (sym is ∙ pass) in
         record {
           hyps = hypotheses_of (entries_of some.file);
           fs = list_of (entries_of some.file);
@@ -54,8 +45,8 @@ module _ (t : List ℕ) (n : ℕ) (numbers : List ℕ) (asked : ℕ) (journal : 
         }
 
     pub done : (report : Report) (journalAfter answersAfter : List ℕ)
-        → Works t n numbers asked journal used limit answers report journalAfter answersAfter
-        → Proceeds t n numbers asked journal used limit answers report journalAfter answersAfter
+        → Works t n numbers journal used limit answers report journalAfter answersAfter
+        → Proceeds t n numbers journal used limit answers report journalAfter answersAfter
     done report journalAfter answersAfter works file for =
         works (hypotheses_of (entries_of file)) (list_of (entries_of file)) (queries_of (entries_of file)) for.prepared
         ∙ sym (succeeded file journal used limit answers for.accepted (sym (of_file file for) ∙ pass))

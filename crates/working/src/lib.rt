@@ -6,28 +6,26 @@ mod work;
 
 ghost use Rattle.working.specs.Working.{Acceptable, Proceeds};
 
-use infon::{Report, Verdict};
+use formulas::Formulas;
+use infon::Report;
 use sizes::{check_sizes, refusal};
 use work::work;
 
 // What a run does on an accepted file: its own codes, and then the work.
 pub fn proceed(
-    table: &[u16],
-    n: usize,
+    list: Formulas,
     queries: &[u16],
-    asked: usize,
     journal: &mut [u8],
     used: usize,
     limit: usize,
     answers: &mut [u8],
 ) -> Report
-    requires { Acceptable table.now n queries.now asked }
-    ensures { Proceeds table.now n queries.now asked journal.old used limit answers.old result
+    requires { Acceptable list.table.now list.n queries.now }
+    ensures { Proceeds list.entry.table.now list.entry.n queries.now journal.old used limit answers.old result
         journal.new answers.new }
 {
-    let sizes = check_sizes(journal.len(), n, used, answers.len(), asked);
-    if let Verdict::Refused { code, place } = sizes {
-        return refusal(code, place, used);
+    match check_sizes(journal.len(), list.n, used, answers.len(), queries.len()) {
+        Ok(()) => work(list, queries, journal, used, limit, answers),
+        Err(by) => refusal(by, used),
     }
-    work(table, n, queries, asked, journal, used, limit, answers)
 }

@@ -11,8 +11,8 @@ use mathlib.Core.Logic.{⊎_elim}
 use lib.ListN.{length, length-append}
 use lib.Dec.{leb, ltb}
 use borrow.Author.Tests.{lt-ltb, ltb-true, ltb-false, leb-true, leb-false}
+use Rattle.std.proofs.lemmas.Bool.{cases_Bool}
 use Rattle.io.specs.Digits.{last_digits, hex_digit_ascii, IsDigitCount}
-use Rattle.infon.proofs.Rows.{decided}
 use Rattle.writing.specs.Texts.{digits_of, decimal_of}
 
 -- a decimal has at most 20 digits
@@ -23,7 +23,7 @@ length_digits (suc more) n =
     ⊎_elim
     (λ (h : ltb n 10 ≡ true). rw h (omega arith))
     (λ (h : ltb n 10 ≡ false). rw h (simp length-append (omega (arith, length_digits more (n / 10)))))
-    (decided (ltb n 10))
+    (cases_Bool (ltb n 10))
 
 pub length_decimal : (n : ℕ) → length (decimal_of n) ≤ 20
 unfolding decimal_of
@@ -39,7 +39,7 @@ few_digits n k small f =
     let low : 10 ^ (k - 1) ≤ n = f.2 (omega arith) in
     let high : 10 ^ 20 ≤ 10 ^ (k - 1) = pow-le-pow_right {n = 10} (omega arith) {i = 20} {j = k - 1} (omega arith) in
     absurd (omega arith))
-    (decided (leb k 20))
+    (cases_Bool (leb k 20))
 
 -- the last digit of a number
 last_digit : (n : ℕ) → hex_digit_ascii (n % 10) ≡ 48 + n % 10
@@ -73,7 +73,7 @@ fewest_digits (suc k) (suc most) n h f =
     (λ (small : ltb n 10 ≡ true). rw small (one_digit k n (ltb-true n 10 small) f))
     (λ (large : ltb n 10 ≡ false).
     rw (large, last_digit n, fewest_digits k most (n / 10) (omega arith) (fewest_front k n (ltb-false n 10 large) f)))
-    (decided (ltb n 10))
+    (cases_Bool (ltb n 10))
 
 -- the digits that hold a number best are its decimal
 pub fewest_decimal : (n k : ℕ) (text : List ℕ) → k ≤ 20 → IsDigitCount 10 1 n k → text ≡ last_digits 10 k n → text ≡ decimal_of n

@@ -8,8 +8,8 @@ use mathlib.Core.List.{List, [], ◌∷◌}
 use mathlib.Core.Logic.{⊎_elim}
 use lib.ListN.{length, length-append}
 use lib.Dec.{eqb}
+use Rattle.std.proofs.lemmas.Bool.{cases_Bool}
 use Rattle.infon.specs.Bytes.{bytes, space, line_feed}
-use Rattle.infon.proofs.Rows.{decided}
 use Rattle.writing.specs.Placed.{Put, Prints}
 use Rattle.writing.specs.Texts.{digits_of, decimal_of, word_of, line_of, printed_refusal}
 use Rattle.writing.proofs.Placing.{put_room, put_on, put_prints}
@@ -21,8 +21,8 @@ length_word answer =
     ⊎_elim
     (λ (h : eqb answer 1 ≡ true). rw h (omega arith))
     (λ (h : eqb answer 1 ≡ false).
-    rw h (⊎_elim (λ (g : eqb answer 0 ≡ true). rw g (omega arith)) (λ (g : eqb answer 0 ≡ false). rw g (omega arith)) (decided (eqb answer 0))))
-    (decided (eqb answer 1))
+    rw h (⊎_elim (λ (g : eqb answer 0 ≡ true). rw g (omega arith)) (λ (g : eqb answer 0 ≡ false). rw g (omega arith)) (cases_Bool (eqb answer 0))))
+    (cases_Bool (eqb answer 1))
 
 pub length_line : (count answer : ℕ) (behind : List ℕ) → length (line_of count answer behind) ≤ 32 + length behind
 unfolding line_of

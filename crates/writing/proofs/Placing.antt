@@ -44,9 +44,6 @@ unfolding written
 put_nothing at b = record { ends = omega arith; holds = sym (ap (λ (k : ℕ). take at b ++ drop k b) (add-zero at) ∙ take-append-drop at b) }
 
 -- As much of a text as there is room for: all of it where it fits, ..
-pub put_fits : {text : List ℕ} {at : ℕ} {b₀ b₁ : List ℕ} {r : ℕ} → length text ≤ length b₀ - at → Put text at b₀ r b₁ → PutSome text at b₀ r b₁
-put_fits {text} {at} {b₀} fits p = record { front = rw (take_all (length b₀ - at) text fits) p }
-
 pub some_fits : {text : List ℕ} {at : ℕ} {b₀ b₁ : List ℕ} {r : ℕ} → length text ≤ length b₀ - at → PutSome text at b₀ r b₁ → Put text at b₀ r b₁
 some_fits {text} {at} {b₀} {b₁} {r} fits p = subst (λ (l : List ℕ). Put l at b₀ r b₁) (take_all (length b₀ - at) text fits) p.front
 

@@ -1,4 +1,5 @@
-// Writing text into a buffer: a number in decimal, the word for an answer, the line of a query and that of a refusal.
+// Writing text into a buffer: a number in decimal, the word for an answer, the line of a query and that of a refusal. (Buffer and place
+// are not one struct: each function would have to promise as well that it still holds the same `&mut`.)
 #![tactic(auto)]
 
 ghost use Rattle.std.specs.Prelude.{◌++◌, ◌+◌, ◌≤◌, length};
@@ -20,11 +21,8 @@ pub fn put_some(text: &[u8], out: &mut [u8], at: usize) -> usize
     requires { at ≤ length out.old }
     ensures { PutSome text.now at out.old result out.new }
 {
-    let room = out.len() - at;
-    if room < text.len() {
-        return put(&text[..room], out, at);
-    }
-    put(text, out, at)
+    let n = text.len().min(out.len() - at);
+    put(&text[..n], out, at)
 }
 
 // Puts as much of a number in decimal as there is room for.
@@ -54,21 +52,21 @@ pub fn put_number(text: &[u8], n: usize, out: &mut [u8], at: usize) -> usize
     put_some_decimal(n, out, behind)
 }
 
-// Puts the word for an answer's byte.
+// Puts the word for an answer's byte, as the row of answers for C has it.
+#[tactic(auto, unfolding(crate::specs::Texts::word_of, infon::specs::Bytes::bytes))]
 pub fn put_word(answer: u8, out: &mut [u8], at: usize) -> usize
     requires { at + 4 ≤ length out.old }
     ensures { Put (word_of answer) at out.old result out.new }
 {
-    if answer == 1 {
-        return put(b"yes", out, at);
+    match answer {
+        1 => put(b"yes", out, at),
+        0 => put(b"no", out, at),
+        _ => put(b"open", out, at),
     }
-    if answer == 0 {
-        return put(b"no", out, at);
-    }
-    put(b"open", out, at)
 }
 
 // Puts a query's line: its count, a space, the word for its answer, what stands behind that, and a line feed.
+#[tactic(auto, using(crate::proofs::Decimal::length_decimal, crate::proofs::Lines::length_word))]
 pub fn put_line(count: usize, answer: u8, behind: &[u8], out: &mut [u8], at: usize) -> usize
     requires { at + 32 + length behind.now ≤ length out.old }
     ensures { Put (line_of count answer behind.now) at out.old result out.new }
@@ -81,6 +79,7 @@ pub fn put_line(count: usize, answer: u8, behind: &[u8], out: &mut [u8], at: usi
 }
 
 // Prints a refusal's line, and returns its length.
+#[tactic(auto, using(crate::proofs::Decimal::length_decimal))]
 pub fn print_refusal(code: usize, place: usize, out: &mut [u8]) -> usize
     requires { 64 ≤ length out.old }
     ensures { Prints (printed_refusal code place) out.old result out.new }

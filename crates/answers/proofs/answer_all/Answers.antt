@@ -1,22 +1,17 @@
--- `answers::answer_all` meets its contract. The invariant: the first i answers stand in front, the rest is as it was.
+-- `answers::answer_all` meets its contract: each turn puts one answer more behind those in front.
+use Rattle.std.proofs.Common.{◌∙◌, ap}
+use Rattle.answers.specs.Answered.{answer_at, answered_bytes}
 use Rattle.answers.proofs.Filling.{begin, turn, over}
-use native.Mathlib.Omega.{arith}
 use Rattle.answers.proofs.answer_all.Goals as goal
 
 pub loop-i-init : goal.loop-i-init
-loop-i-init c = begin _ _ _ _ _
-
-pub bounds-queries-i : goal.bounds-queries-i
-bounds-queries-i c = omega (arith, c.requires.listed)
-
-pub answer_at-requires : goal.answer_at-requires
-answer_at-requires c = c.requires.marked c.loop-i.i c.loop-i-test.true
-
-pub bounds-answers-i : goal.bounds-answers-i
-bounds-answers-i c = omega (arith, c.loop-i.invariant.long, c.requires.room)
+loop-i-init c = begin (answer_at c.args.marks.now c.args.finished) c.args.queries.now _
 
 pub loop-i-preserved : goal.loop-i-preserved
-loop-i-preserved c = turn _ _ _ _ _ _ _ _ c.requires c.loop-i.invariant c.loop-i-test.true c.answer_at.ensures
+loop-i-preserved c =
+    turn (answer_at c.args.marks.now c.args.finished) _ _ _ c.requires.room c.loop-i-test.true c.loop-i.invariant
+    (c.answer_at.ensures ∙ ap (answer_at c.args.marks.now c.args.finished) c.from.ensures)
 
 pub returns : goal.returns
-returns c = over _ _ _ _ _ _ _ c.loop-i.invariant c.loop-i-test.false
+unfolding answered_bytes
+returns c = over (answer_at c.args.marks.now c.args.finished) _ _ _ c.loop-i-test.false c.loop-i.invariant

@@ -1,24 +1,22 @@
--- `columns::left_of` meets its contract: a base with parts has its left one right behind it, under the same form.
-use native.Mathlib.Omega.{arith}
-use Prim.Native.Nat.{ℕ, ◌≤◌}
-use mathlib.Core.Path.{◌∙◌, subst}
-use Rattle.columns.proofs.Steps.{form_row, form_table, left_is_form, left_none, left_some}
+-- `columns::left_of` meets its contract: a base with parts has them behind it, under the same form.
+use mathlib.Core.Path.{sym, ◌∙◌}
+use Rattle.columns.proofs.Steps.{owner_read, owner_row, left_form, left_none, left_some}
 use Rattle.columns.proofs.left_of.Goals as goal
 
-pub cell_at-requires : goal.cell_at-requires
-cell_at-requires c =
-    let form = c.requires.owner.0 in record { inside = (omega arith, form_row _ _ _ form); whole = form_table _ _ _ form }
+pub kind_at-requires : goal.kind_at-requires
+kind_at-requires c = owner_row (owner_read c.args.forms c.requires c.from-owner.ensures)
 
-pub returns-then-cell_at-lt-AND : goal.returns-then-cell_at-lt-AND
-returns-then-cell_at-lt-AND c = left_none _ _ _ _ _ c.cell_at.ensures c.if-cell_at-lt-AND.true
-
-pub overflow_add-b : goal.overflow_add-b
-overflow_add-b c = omega (arith, form_row _ _ _ c.requires.owner.0)
+pub returns-then-is_leaf : goal.returns-then-is_leaf
+returns-then-is_leaf c =
+    left_none (owner_read c.args.forms c.requires c.from-owner.ensures) _ c.kind_at.ensures
+    (sym c.is_leaf.ensures ∙ c.if-is_leaf.true)
 
 pub form_number-requires : goal.form_number-requires
 form_number-requires c =
-    let two = subst (λ (k : ℕ). 2 ≤ k) c.cell_at.ensures c.if-cell_at-lt-AND.false in
-    (left_is_form _ _ _ c.requires.owner.0 two c.requires.owner.1, c.requires.cand_long)
+    left_form (owner_read c.args.forms c.requires c.from-owner.ensures) c.args.forms.cand.now c.kind_at.ensures
+    (sym c.is_leaf.ensures ∙ c.if-is_leaf.false)
 
 pub returns : goal.returns
-returns c = c.form_number.ensures ∙ left_some _ _ _ _ _ c.cell_at.ensures c.if-cell_at-lt-AND.false
+returns c =
+    left_some (owner_read c.args.forms c.requires c.from-owner.ensures) _ c.kind_at.ensures
+    (sym c.is_leaf.ensures ∙ c.if-is_leaf.false) c.form_number.ensures

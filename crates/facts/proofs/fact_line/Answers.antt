@@ -1,8 +1,6 @@
 -- `facts::fact_line` meets its contract: each line is looked at, and the sought one is found or is still ahead.
-use Prim.Native.Nat.{◌<◌}
 use native.Mathlib.Omega.{arith}
-use borrow.Author.Rules.{rules}
-use Rattle.prefix.proofs.Shown.{count_few, table_long}
+use Rattle.prefix.proofs.Shown.{count_few}
 use Rattle.facts.proofs.Sought.{sought_begin, node_below, line_asked, sought_here, sought_on, further, sought_over}
 use Rattle.facts.proofs.fact_line.Goals as goal
 
@@ -19,17 +17,11 @@ returns-then-is_fact c =
 
 pub cell_at-r-requires : goal.cell_at-r-requires
 cell_at-r-requires c =
-    let row : c.loop-r.r < 1024 = let pre = c.requires in
-    omega (arith, node_below _ _ _ _ _ _ _ pre c.loop-r.invariant c.loop-r-test.true, count_few _ _ pre.told.held) in
-    record { inside = (omega arith, row); whole = table_long _ _ c.requires.told.held }
+    omega (arith, node_below _ _ _ _ _ _ _ c.requires c.loop-r.invariant c.loop-r-test.true, count_few _ _ c.requires.told.held)
 
 pub overflow_add-line : goal.overflow_add-line
 overflow_add-line c =
-    let row : c.loop-r.r < 1024 = let pre = c.requires in
-    omega (arith, node_below _ _ _ _ _ _ _ pre c.loop-r.invariant c.loop-r-test.true, count_few _ _ pre.told.held) in
-    let low = row in
-    let few = c.loop-r.invariant.few in
-    search (rules, low, few)
+    omega (arith, c.loop-r.invariant.few, node_below _ _ _ _ _ _ _ c.requires c.loop-r.invariant c.loop-r-test.true, count_few _ _ c.requires.told.held)
 
 pub loop-r-smaller : goal.loop-r-smaller
 loop-r-smaller c =

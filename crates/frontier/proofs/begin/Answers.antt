@@ -1,9 +1,6 @@
 -- `frontier::begin` meets its contract. The loop's invariant: what is wanted in all is what is wanted so far and what is wanted from here on.
-use Rattle.frontier.proofs.Chained.{taking_begins, taking_turn, taking_over}
+use Rattle.frontier.proofs.Chained.{taking_turn, taking_over}
 use Rattle.frontier.proofs.begin.Goals as goal
-
-pub loop-i-init : goal.loop-i-init
-loop-i-init c = taking_begins _ _ _ _
 
 pub loop-i-preserved : goal.loop-i-preserved
 loop-i-preserved c =

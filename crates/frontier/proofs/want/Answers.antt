@@ -3,13 +3,12 @@ use mathlib.Core.Path.{sym, ◌∙◌}
 use Rattle.formulas.proofs.Given.{good_below}
 use Rattle.frontier.proofs.Wanting.{is_wanted_lem, bad_wanted}
 use native.Mathlib.Omega.{arith}
-use borrow.Author.Rules.{rules}
 use Rattle.frontier.proofs.want.Goals as goal
 
 pub insert-requires : goal.insert-requires
 insert-requires c =
     let low = good_below _ _ _ _ (sym c.is_good.ensures ∙ c.if-is_good.true) in
-    (omega arith, search rules)
+    omega arith
 
 pub returns-then-is_good : goal.returns-then-is_good
 returns-then-is_good c =

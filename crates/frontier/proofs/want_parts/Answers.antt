@@ -4,5 +4,5 @@ use Rattle.frontier.proofs.want_parts.Goals as goal
 
 pub returns : goal.returns
 returns c =
-    parts_wanted _ _ _ _ _ c.cell_at-left.ensures c.cell_at-right.ensures c.want.ensures
+    parts_wanted _ _ _ _ _ c.at-left.ensures c.at-right.ensures c.want.ensures
     c.want-2.ensures

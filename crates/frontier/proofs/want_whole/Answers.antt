@@ -4,5 +4,5 @@ use Rattle.frontier.proofs.want_whole.Goals as goal
 
 pub returns : goal.returns
 returns c =
-    whole_wanted _ _ _ _ _ c.cell_at-left.ensures c.cell_at-right.ensures c.want.ensures
+    whole_wanted _ _ _ _ _ c.at-left.ensures c.at-right.ensures c.want.ensures
     c.want-2.ensures c.want-3.ensures

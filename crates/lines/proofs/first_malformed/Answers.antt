@@ -7,21 +7,12 @@ use Rattle.lines.proofs.first_malformed.Goals as goal
 pub loop-start-init : goal.loop-start-init
 loop-start-init c = (omega arith, code2_begin c.args.file.now)
 
-pub line_end-end-requires : goal.line_end-end-requires
-line_end-end-requires c = omega arith
-
-pub is_well_formed-requires : goal.is_well_formed-requires
-is_well_formed-requires c = record { inside = omega arith; ended = c.line_end-end.ensures }
-
 pub returns-then-not-is_well_formed : goal.returns-then-not-is_well_formed
 returns-then-not-is_well_formed c =
     sym (c.loop-start.invariant.1 ∙ code2_stop c.args.file.now c.loop-start.start (omega arith) (sym c.is_well_formed.ensures ∙ c.if-not-is_well_formed.true))
 
 pub overflow_add-start : goal.overflow_add-start
 overflow_add-start c = omega (arith, line_ended c.args.file.now c.loop-start.start c.line_end-end.result (omega arith) c.line_end-end.ensures (sym c.is_well_formed.ensures ∙ c.if-not-is_well_formed.false))
-
-pub loop-start-smaller : goal.loop-start-smaller
-loop-start-smaller c = omega (arith, line_ended c.args.file.now c.loop-start.start c.line_end-end.result (omega arith) c.line_end-end.ensures (sym c.is_well_formed.ensures ∙ c.if-not-is_well_formed.false), c.line_end-end.ensures)
 
 pub loop-start-preserved : goal.loop-start-preserved
 loop-start-preserved c =

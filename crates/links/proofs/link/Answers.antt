@@ -3,5 +3,4 @@ use Rattle.links.proofs.Filling.{all_linked}
 use Rattle.links.proofs.link.Goals as goal
 
 pub returns : goal.returns
-returns c =
-    all_linked _ _ _ c.chain.ensures c.chain-2.ensures c.chain-3.ensures
+returns c = all_linked _ _ _ c.fill.ensures c.fill-2.ensures c.fill-3.ensures

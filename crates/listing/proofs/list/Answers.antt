@@ -1,30 +1,49 @@
 -- `listing::list` meets its contract: the nodes are listed, and where that goes through the columns, the hypotheses and the queries follow.
-use Rattle.listing.proofs.Final.{too_many, whole_list, columns_room, lines_ready, now_clear, all_listed, fresh}
+use native.Mathlib.Omega.{arith}
+use Prim.Native.Nat.{ℕ, ◌≤◌}
+use lib.ListN.{length, length-replicate}
+use Rattle.formulas.specs.Table.{table_cells}
+use Rattle.infon.specs.Listing.{most_listed}
+use Rattle.listing.proofs.Final.{too_many, all_owned, lines_ready, now_clear, all_listed}
+use Rattle.std.proofs.lemmas.Result.{err_from_is_err_and}
+use borrow.Author.Rules.{rules}
 use Rattle.listing.proofs.list.Goals as goal
+use Rattle.listing.proofs.list.Goals.{In_ok-n}
 
-pub list_nodes-counted-requires : goal.list_nodes-counted-requires
-list_nodes-counted-requires c = (c.requires.held, (c.requires.all, fresh))
+pub invariant_of-work : goal.invariant_of-work
+unfolding most_listed
+invariant_of-work c =
+    record {
+      cand_long = rw (length-replicate {A = ℕ} 16384 0) (omega arith);
+      keys_long = rw (length-replicate {A = ℕ} 4112 0) (omega arith);
+      owners_long = rw (length-replicate {A = ℕ} 4112 0) (omega arith);
+    }
 
-pub returns-in-Refused : goal.returns-in-Refused
-returns-in-Refused c =
-    too_many _ _ _ _ _ _ _ _ _ c.list_nodes-counted.ensures c.in-Refused.is
+pub returns-in_err-n : goal.returns-in_err-n
+returns-in_err-n c =
+    let p = err_from_is_err_and c.from_residual.result c.from_residual.ensures.1 in
+    rw (p.1, p.2) (too_many c.in_err-n.ensures)
 
-pub fill_columns-requires : goal.fill_columns-requires
-fill_columns-requires c =
-    let whole = whole_list c.requires _ c.list_nodes-counted.auto.cand _ c.list_nodes-counted.auto.keys _ c.list_nodes-counted.auto.owners c.list_nodes-counted.ensures c.in_default.is in
-    columns_room _ _ _ _ _ _ _ _ _ whole
+long : (c : In_ok-n) → table_cells ≤ length c.args.table.now
+long c = search rules
+
+pub invariant_of-forms : goal.invariant_of-forms
+invariant_of-forms c =
+    record { owned = all_owned _ _ c.args.policy.held c.args.table.now c.args.queries.now _ _ _ (long (goal.at.invariant_of-forms c).In_ok-n) _ c.in_ok-n.ensures }
 
 pub fill_hypotheses-requires : goal.fill_hypotheses-requires
 fill_hypotheses-requires c =
-    let whole = whole_list c.requires _ c.list_nodes-counted.auto.cand _ c.list_nodes-counted.auto.keys _ c.list_nodes-counted.auto.owners c.list_nodes-counted.ensures c.in_default.is in
-    (lines_ready _ _ _ _ _ _ _ _ _ whole, now_clear _ _ _ _ _ _ _ _ _ whole _ c.fill_columns.ensures)
+    let room = long (goal.at.fill_hypotheses-requires c).In_ok-n in
+    record {
+      ready = lines_ready _ _ c.args.policy.held c.args.table.now c.args.queries.now _ _ _ room _ c.in_ok-n.ensures;
+      clear = now_clear _ _ c.args.policy.held c.args.table.now c.args.queries.now _ _ _ room _ c.in_ok-n.ensures c.fill_columns.ensures;
+    }
 
-pub fill_queries-asked-requires : goal.fill_queries-asked-requires
-fill_queries-asked-requires c =
-    let whole = whole_list c.requires _ c.list_nodes-counted.auto.cand _ c.list_nodes-counted.auto.keys _ c.list_nodes-counted.auto.owners c.list_nodes-counted.ensures c.in_default.is in
-    (lines_ready _ _ _ _ _ _ _ _ _ whole, whole.ready.queries_long)
+pub fill_queries-asked-requires-clause-ready : goal.fill_queries-asked-requires-clause-ready
+fill_queries-asked-requires-clause-ready c =
+    lines_ready _ _ c.args.policy.held c.args.table.now c.args.queries.now _ _ _ (long (goal.at.fill_queries-asked-requires-clause-ready c).In_ok-n) _ c.in_ok-n.ensures
 
 pub returns : goal.returns
 returns c =
-    let whole = whole_list c.requires _ c.list_nodes-counted.auto.cand _ c.list_nodes-counted.auto.keys _ c.list_nodes-counted.auto.owners c.list_nodes-counted.ensures c.in_default.is in
-    all_listed _ _ _ _ _ _ _ _ _ whole _ c.fill_columns.ensures _ c.fill_hypotheses.ensures _ _ c.fill_queries-asked.ensures
+    all_listed _ _ c.args.policy.held c.args.table.now c.args.queries.now _ _ _ (long (goal.at.returns c).In_ok-n) _ c.in_ok-n.ensures c.fill_columns.ensures
+    c.fill_hypotheses.ensures c.fill_queries-asked.ensures

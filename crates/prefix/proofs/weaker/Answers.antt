@@ -9,7 +9,7 @@ use Rattle.prefix.proofs.weaker.Goals as goal
 pub loop-k-preserved : goal.loop-k-preserved
 loop-k-preserved c =
     let fits : c.args.p.count ≤ length c.args.p.places = omega (arith, c.requires.few, c.requires.full) in
-    rw (c.lower-low.ensures, c.bits_left-left.ensures)
+    rw (c.lower.ensures, c.bits_left-left.ensures)
     (lower_turn _ _ _ _ _ _ fits c.loop-k.invariant blank c.loop-k-test.true)
 
 pub returns : goal.returns

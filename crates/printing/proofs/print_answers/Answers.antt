@@ -8,41 +8,32 @@ pub loop-start-init : goal.loop-start-init
 loop-start-init c =
     begin c.args.file.now c.args.asked c.args.answers.now c.args.out.now c.requires.lines
 
-pub returns-then-answers-count : goal.returns-then-answers-count
-returns-then-answers-count c =
+pub returns-then-answers-so_far : goal.returns-then-answers-so_far
+returns-then-answers-so_far c =
     let l = c.loop-start in
-    over_answers c.args.file.now c.args.asked c.args.answers.now c.args.out.now l.out l.at l.count l.start l.invariant c.requires.room (omega arith)
+    over_answers c.args.file.now c.args.asked c.args.answers.now c.args.out.now l.out l.so_far.at l.so_far.count l.start l.invariant c.requires.room (omega arith)
 
-pub line_end-end-requires : goal.line_end-end-requires
-line_end-end-requires c = omega arith
-
-pub put_query-next-requires : goal.put_query-next-requires
-put_query-next-requires c =
+pub put_query-so_far-requires : goal.put_query-so_far-requires
+put_query-so_far-requires c =
     let l = c.loop-start in
-    let places = turn_places c.args.file.now c.args.asked c.args.answers.now c.args.out.now l.out l.at l.count l.start l.invariant c.requires.room (omega arith) (omega arith) c.line_end-end.result c.line_end-end.ensures in
+    let places = turn_places c.args.file.now c.args.asked c.args.answers.now c.args.out.now l.out l.so_far.at l.so_far.count l.start l.invariant c.requires.room (omega arith) (omega arith) c.line_end-end.result c.line_end-end.ensures in
     let room =
-    turn_room c.args.file.now c.args.asked c.args.answers.now c.args.out.now l.out l.at l.count l.start l.invariant c.requires.room
+    turn_room c.args.file.now c.args.asked c.args.answers.now c.args.out.now l.out l.so_far.at l.so_far.count l.start l.invariant c.requires.room
     (omega arith) (omega arith) c.line_end-end.result c.line_end-end.ensures in record { inside = (places.0, omega (arith, places.1)); answered = omega arith; room = room }
 
 pub overflow_add-start : goal.overflow_add-start
 overflow_add-start c =
     let l = c.loop-start in
-    let places = turn_places c.args.file.now c.args.asked c.args.answers.now c.args.out.now l.out l.at l.count l.start l.invariant c.requires.room (omega arith) (omega arith) c.line_end-end.result c.line_end-end.ensures in
+    let places = turn_places c.args.file.now c.args.asked c.args.answers.now c.args.out.now l.out l.so_far.at l.so_far.count l.start l.invariant c.requires.room (omega arith) (omega arith) c.line_end-end.result c.line_end-end.ensures in
     omega (arith, places.1)
-
-pub loop-start-smaller : goal.loop-start-smaller
-loop-start-smaller c =
-    let l = c.loop-start in
-    let places = turn_places c.args.file.now c.args.asked c.args.answers.now c.args.out.now l.out l.at l.count l.start l.invariant c.requires.room (omega arith) (omega arith) c.line_end-end.result c.line_end-end.ensures in
-    omega (arith, places)
 
 pub loop-start-preserved : goal.loop-start-preserved
 loop-start-preserved c =
     let l = c.loop-start in
-    turn c.args.file.now c.args.asked c.args.answers.now c.args.out.now l.out l.at l.count l.start l.invariant c.requires.room
-    (omega arith) (omega arith) c.line_end-end.result c.line_end-end.ensures c.put_query-next.result _ c.put_query-next.ensures
+    turn c.args.file.now c.args.asked c.args.answers.now c.args.out.now l.out l.so_far.at l.so_far.count l.start l.invariant c.requires.room
+    (omega arith) (omega arith) c.line_end-end.result c.line_end-end.ensures c.put_query-so_far.result _ c.put_query-so_far.ensures
 
 pub returns : goal.returns
 returns c =
     let l = c.loop-start in
-    over_lines c.args.file.now c.args.asked c.args.answers.now c.args.out.now l.out l.at l.count l.start l.invariant c.requires.room (omega arith)
+    over_lines c.args.file.now c.args.asked c.args.answers.now c.args.out.now l.out l.so_far.at l.so_far.count l.start l.invariant c.requires.room (omega arith)

@@ -7,7 +7,7 @@ use Rattle.printing.proofs.put_query.Goals as goal
 pub returns-then-file-start-ne81 : goal.returns-then-file-start-ne81
 returns-then-file-start-ne81 c =
     let a = c.args in
-    not_asking a.file.now a.start a.end a.asked a.answers.now a.count a.at a.out.now c.if-file-start-ne81.true
+    not_asking a.file.now a.start a.end a.asked a.answers.now a.so_far.count a.so_far.at a.out.now c.if-file-start-ne81.true
 
 pub slice_bounds-put_line-count : goal.slice_bounds-put_line-count
 slice_bounds-put_line-count c =
@@ -22,11 +22,11 @@ slice_bounds-put_line-start c =
 pub put_line-next-requires : goal.put_line-next-requires
 put_line-next-requires c =
     let a = c.args in
-    part_room a.file.now a.start a.end _ a.answers.now a.count a.at a.out.now c.if-file-start-ne81.false c.behind_from-from.result
+    part_room a.file.now a.start a.end _ a.answers.now a.so_far.count a.so_far.at a.out.now c.if-file-start-ne81.false c.behind_from-from.result
     c.behind_from-from.ensures c.requires.inside.0 c.requires.room
 
 pub returns : goal.returns
 returns c =
     let a = c.args in
-    asking a.file.now a.start a.end a.asked a.answers.now a.count a.at a.out.now c.if-file-start-ne81.false c.behind_from-from.result
+    asking a.file.now a.start a.end a.asked a.answers.now a.so_far.count a.so_far.at a.out.now c.if-file-start-ne81.false c.behind_from-from.result
     c.behind_from-from.ensures c.requires.inside.0 c.requires.room c.put_line-next.result _ c.put_line-next.ensures

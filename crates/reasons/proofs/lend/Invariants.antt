@@ -1,11 +1,6 @@
-use Prim.Native.Nat.{◌-◌}
-use mathlib.Core.Path.{◌≡◌}
-use lib.ListN.{length}
+-- The wanted ones of the records gone through stand at the front.
 use Rattle.reasons.proofs.Lending.{Lending}
 use Rattle.reasons.proofs.lend.Given as goal
 
 abbrev pub invariant-loop-i : goal.invariant-loop-i
-invariant-loop-i l = Lending l.journal l.wanted l.kept l.initial.out l.out l.count l.i × (length l.out ≡ length l.initial.out)
-
-abbrev pub decreases-loop-i : goal.decreases-loop-i
-decreases-loop-i l = l.kept - l.i
+invariant-loop-i l = Lending l.journal l.wanted l.kept l.initial.out l.out l.count l.i

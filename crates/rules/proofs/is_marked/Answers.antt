@@ -2,8 +2,8 @@
 use Rattle.rules.proofs.Led.{marked_in, marked_out}
 use Rattle.rules.proofs.is_marked.Goals as goal
 
-pub returns-then-i-n : goal.returns-then-i-n
-returns-then-i-n c = marked_in _ _ _ c.if-i-n.true
+pub returns-then-i-list : goal.returns-then-i-list
+returns-then-i-list c = marked_in _ _ _ c.if-i-list.true
 
-pub returns-else-i-n : goal.returns-else-i-n
-returns-else-i-n c = marked_out _ _ _ c.if-i-n.false
+pub returns-else-i-list : goal.returns-else-i-list
+returns-else-i-list c = marked_out _ _ _ c.if-i-list.false

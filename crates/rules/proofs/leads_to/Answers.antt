@@ -20,11 +20,11 @@ has_parts-requires-then-are_marked-2 c = omega (arith, second_below _ _ _ _ c.ar
 
 pub returns-in-Hypothesis : goal.returns-in-Hypothesis
 unfolding premises_marked gives_in
-returns-in-Hypothesis c = led _ _ _ _ c.in-Hypothesis.is refl (equal_read 1 c.cell_at.ensures)
+returns-in-Hypothesis c = led _ _ _ _ c.in-Hypothesis.is refl (equal_read 1 c.at.ensures)
 
 pub returns-in-Given : goal.returns-in-Given
 unfolding premises_marked gives_in
-returns-in-Given c = led _ _ _ _ c.in-Given.is refl (equal_read 0 c.cell_at-in-Given.ensures)
+returns-in-Given c = led _ _ _ _ c.in-Given.is refl (equal_read 0 c.at-in-Given.ensures)
 
 pub returns-then-is_marked : goal.returns-then-is_marked
 unfolding premises_marked gives_in

@@ -1,16 +1,11 @@
 -- `settling::show` meets its contract: by the text's length.
-use native.Mathlib.Omega.{arith}
-use Rattle.settling.proofs.Settling.{shown_nothing, shown, printable}
+use Rattle.settling.proofs.Settling.{shown_nothing, shown}
 use Rattle.settling.proofs.show.Goals as goal
 
 pub returns-then-text-lt-TEXT_BYTES : goal.returns-then-text-lt-TEXT_BYTES
 returns-then-text-lt-TEXT_BYTES c =
     let a = c.args in
     shown_nothing a.asked a.file.now a.code a.place a.answers.now a.text.now c.if-text-lt-TEXT_BYTES.true
-
-pub print_run-requires : goal.print_run-requires
-print_run-requires c =
-    let a = c.args in record { printable = λ accepted. printable a.file.now a.code a.answers.now a.text.now c.requires c.if-text-lt-TEXT_BYTES.false accepted; room = omega arith }
 
 pub returns : goal.returns
 returns c =

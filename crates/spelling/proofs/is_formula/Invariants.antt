@@ -2,7 +2,7 @@ use Prim.Native.Nat.{◌+◌, ◌≤◌, ◌-◌}
 use mathlib.Core.Path.{◌≡◌}
 use lib.ListN.{length, drop}
 use Rattle.infon.specs.Formula.{tokens, read_words, formula_of}
-use Rattle.infon.specs.Policy.{is_some}
+use Rattle.std.specs.Prelude.{is_some}
 use Rattle.spelling.proofs.Counted.{matches}
 use Rattle.spelling.proofs.is_formula.Given as goal
 

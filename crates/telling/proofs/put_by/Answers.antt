@@ -2,12 +2,8 @@
 use mathlib.Core.List.{◌++◌}
 use Rattle.infon.specs.Bytes.{bytes}
 use Rattle.writing.specs.Texts.{decimal_of}
-use Rattle.writing.proofs.Placing.{some_ends}
 use Rattle.telling.proofs.Putting.{some_then}
 use Rattle.telling.proofs.put_by.Goals as goal
-
-pub put_number-requires : goal.put_number-requires
-put_number-requires c = (some_ends c.put_number-end.ensures c.requires).0
 
 pub returns : goal.returns
 unfolding bytes

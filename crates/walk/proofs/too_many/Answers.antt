@@ -1,41 +1,32 @@
--- `walk::too_many` meets its contract. The invariant: `at` and `line` are where node `count` and its line begin, or the file
--- is at its end.
-use mathlib.Core.Path.{sym, ◌∙◌, ap}
-use Rattle.infon.specs.Policy.{most_nodes}
-use Rattle.walk.specs.Walking.{behind_own}
-use Rattle.walk.proofs.Spots.{walk_begin, walk_here, walk_within, walk_on, walk_later, many_nodes, few_nodes}
+-- `walk::too_many` meets its contract. The invariant: the spot is where the next node and its line begin, or the file is at its end.
+use mathlib.Core.Path.{sym}
 use native.Mathlib.Omega.{arith}
+use Rattle.infon.specs.Policy.{most_nodes}
+use Rattle.walk.proofs.Spots.{walk_begin, walk_inside, walk_here, walk_within, walk_on, many_nodes, few_nodes}
 use Rattle.walk.proofs.too_many.Goals as goal
 
-pub loop-at-init : goal.loop-at-init
-loop-at-init c = (omega arith, (omega arith, walk_begin c.args.file.now c.requires))
+pub loop-init : goal.loop-init
+loop-init c = (omega arith, walk_begin c.args.file.now c.requires)
 
-pub returns-then-count-eq-ROWS : goal.returns-then-count-eq-ROWS
+pub returns-in_default : goal.returns-in_default
 unfolding most_nodes
-returns-then-count-eq-ROWS c = sym (many_nodes c.args.file.now c.loop-at.at c.loop-at.line c.loop-at.count c.loop-at.invariant.1.0 c.loop-at.invariant.1.1 (omega arith) c.if-count-eq-ROWS.true)
-
-pub node_at-requires : goal.node_at-requires
-node_at-requires c = omega arith
+returns-in_default c = sym (few_nodes _ _ _ _ c.loop.invariant.0 c.loop.invariant.1 (omega arith) _ c.node_at.ensures c.in_default.is)
 
 pub own_end-end-requires : goal.own_end-end-requires
-own_end-end-requires c = omega arith
+own_end-end-requires c = omega (arith, walk_inside _ _ _ _ c.loop.invariant.0 c.loop.invariant.1 _ _ c.node_at.ensures c.in-Some.is)
 
-pub next_spot-next-requires : goal.next_spot-next-requires
-next_spot-next-requires c =
-    walk_within c.args.file.now c.loop-at.at c.loop-at.line c.loop-at.count c.loop-at.invariant.1.0 c.loop-at.invariant.1.1 (omega arith) c.own_end-end.result (c.own_end-end.ensures ∙ ap (behind_own c.loop-at.at) c.node_at.ensures)
+pub next_spot-spot-requires : goal.next_spot-spot-requires
+next_spot-spot-requires c = walk_within _ _ _ _ c.loop.invariant.0 c.loop.invariant.1 _ _ c.node_at.ensures c.in-Some.is _ c.own_end-end.ensures
 
-pub overflow_add-count : goal.overflow_add-count
-overflow_add-count c = omega arith
+pub loop-preserved : goal.loop-preserved
+loop-preserved c =
+    let here = walk_here _ _ _ _ c.loop.invariant.0 c.loop.invariant.1 _ _ c.node_at.ensures c.in-Some.is in
+    (omega arith, walk_on _ _ _ _ c.loop.invariant.0 c.loop.invariant.1 _ _ c.node_at.ensures c.in-Some.is _ c.own_end-end.ensures _ c.next_spot-spot.ensures)
 
-pub loop-at-smaller : goal.loop-at-smaller
-loop-at-smaller c =
-    omega (arith, walk_later c.args.file.now c.loop-at.at c.loop-at.line c.loop-at.count c.loop-at.invariant.1.0 c.loop-at.invariant.1.1 (omega arith) c.own_end-end.result (c.own_end-end.ensures ∙ ap (behind_own c.loop-at.at) c.node_at.ensures) c.next_spot-next.result c.next_spot-next.ensures)
-
-pub loop-at-preserved : goal.loop-at-preserved
-loop-at-preserved c =
-    let here = walk_here c.args.file.now c.loop-at.at c.loop-at.line c.loop-at.count c.loop-at.invariant.1.0 c.loop-at.invariant.1.1 (omega arith) in
-    (omega arith, (omega arith, walk_on c.args.file.now c.loop-at.at c.loop-at.line c.loop-at.count c.loop-at.invariant.1.0 c.loop-at.invariant.1.1 (omega arith) c.own_end-end.result (c.own_end-end.ensures ∙ ap (behind_own c.loop-at.at) c.node_at.ensures) c.next_spot-next.result c.next_spot-next.ensures))
-
-pub returns : goal.returns
+pub returns-in-None : goal.returns-in-None
 unfolding most_nodes
-returns c = sym (few_nodes c.args.file.now c.loop-at.at c.loop-at.line c.loop-at.count c.loop-at.invariant.1.0 c.loop-at.invariant.1.1 (omega arith) (omega arith))
+returns-in-None c = sym (few_nodes _ _ _ _ c.loop.invariant.0 c.loop.invariant.1 (omega arith) _ c.node_at-2.ensures c.in-None.is)
+
+pub returns-in-Some-node_at : goal.returns-in-Some-node_at
+unfolding most_nodes
+returns-in-Some-node_at c = sym (many_nodes _ _ _ _ c.loop.invariant.0 c.loop.invariant.1 _ _ c.node_at-2.ensures c.in-Some-node_at.is (omega arith))

@@ -1,11 +1,7 @@
-use Prim.Native.Nat.{◌≤◌, ◌-◌}
-use lib.ListN.{length}
+use Prim.Native.Nat.{◌≤◌}
 use Rattle.nodes.specs.Nodes.{after, count_nodes, nodes_of}
 use Rattle.nodes.proofs.Spelled.{Chain}
 use Rattle.walk.proofs.too_many.Given as goal
 
-abbrev pub invariant-loop-at : goal.invariant-loop-at
-invariant-loop-at l = (l.count ≤ 1024) × ((l.count ≤ count_nodes (nodes_of l.file)) × Chain l.file l.at l.line (after 0 l.count (nodes_of l.file)))
-
-abbrev pub decreases-loop-at : goal.decreases-loop-at
-decreases-loop-at l = length l.file - l.at
+abbrev pub invariant-loop : goal.invariant-loop
+invariant-loop l = (l.counter ≤ count_nodes (nodes_of l.file)) × Chain l.file l.spot.at l.spot.line (after 0 l.counter (nodes_of l.file))

@@ -1,30 +1,58 @@
 -- `ways::least_way` meets its contract: rule by rule, the first that leads to f.
-use Rattle.ways.proofs.Rulewise.{by_hypothesis, by_given, not_at_once, by_weaken, by_left, past_left, by_right, past_right}
+use Rattle.ways.proofs.Rulewise.{found, past, all_rules}
 use Rattle.ways.proofs.least_way.Goals as goal
 
-pub returns-then-cell_at-eq1 : goal.returns-then-cell_at-eq1
-returns-then-cell_at-eq1 c = by_hypothesis _ _ _ _ c.cell_at.ensures c.if-cell_at-eq1.true
+pub returns-in-Some : goal.returns-in-Some
+returns-in-Some c =
+    all_rules _ _ _ _
+    (found _ _ _ _ _ _ (c.in-Some.ensures c.args.marks.now))
 
-pub returns-then-cell_at-eq-TRUTH : goal.returns-then-cell_at-eq-TRUTH
-returns-then-cell_at-eq-TRUTH c =
-    by_given _ _ _ _ c.cell_at.ensures c.if-cell_at-eq1.false c.cell_at-2.ensures
-    c.if-cell_at-eq-TRUTH.true
+pub returns-in-Some-along : goal.returns-in-Some-along
+returns-in-Some-along c =
+    all_rules _ _ _ _
+    (past _ _ _ _ _ _ (c.in_default.ensures c.args.marks.now)
+    (found _ _ _ _ _ _ c.in-Some-along.ensures))
 
-pub returns-then-weaken-n : goal.returns-then-weaken-n
-returns-then-weaken-n c =
-    by_weaken _ _ _ _ (not_at_once _ _ _ _ c.cell_at.ensures c.if-cell_at-eq1.false c.cell_at-2.ensures c.if-cell_at-eq-TRUTH.false) c.stronger-weaken.ensures c.if-weaken-n.true
+pub returns-in-Some-along-2 : goal.returns-in-Some-along-2
+returns-in-Some-along-2 c =
+    all_rules _ _ _ _
+    (past _ _ _ _ _ _ (c.in_default.ensures c.args.marks.now)
+    (past _ _ _ _ _ _ c.in_default-along.ensures
+    (found _ _ _ _ _ _ c.in-Some-along-2.ensures)))
 
-pub returns-then-left-n : goal.returns-then-left-n
-returns-then-left-n c =
-    by_left _ _ _ _ (not_at_once _ _ _ _ c.cell_at.ensures c.if-cell_at-eq1.false c.cell_at-2.ensures c.if-cell_at-eq-TRUTH.false) c.stronger-weaken.ensures c.if-weaken-n.false c.whole_with-left.ensures
-    c.if-left-n.true
+pub returns-in-Some-along-3 : goal.returns-in-Some-along-3
+returns-in-Some-along-3 c =
+    all_rules _ _ _ _
+    (past _ _ _ _ _ _ (c.in_default.ensures c.args.marks.now)
+    (past _ _ _ _ _ _ c.in_default-along.ensures
+    (past _ _ _ _ _ _ c.in_default-along-2.ensures
+    (found _ _ _ _ _ _ c.in-Some-along-3.ensures))))
 
-pub returns-then-right-n : goal.returns-then-right-n
-returns-then-right-n c =
-    past_left _ _ _ _ (not_at_once _ _ _ _ c.cell_at.ensures c.if-cell_at-eq1.false c.cell_at-2.ensures c.if-cell_at-eq-TRUTH.false) c.stronger-weaken.ensures c.if-weaken-n.false c.whole_with-left.ensures
-    c.if-left-n.false (by_right _ _ _ _ c.whole_with-right.ensures c.if-right-n.true)
+pub returns-in-Some-combined : goal.returns-in-Some-combined
+returns-in-Some-combined c =
+    all_rules _ _ _ _
+    (past _ _ _ _ _ _ (c.in_default.ensures c.args.marks.now)
+    (past _ _ _ _ _ _ c.in_default-along.ensures
+    (past _ _ _ _ _ _ c.in_default-along-2.ensures
+    (past _ _ _ _ _ _ c.in_default-along-3.ensures
+    (found _ _ _ _ _ _ c.in-Some-combined.ensures)))))
+
+pub returns-in-Some-applied : goal.returns-in-Some-applied
+returns-in-Some-applied c =
+    all_rules _ _ _ _
+    (past _ _ _ _ _ _ (c.in_default.ensures c.args.marks.now)
+    (past _ _ _ _ _ _ c.in_default-along.ensures
+    (past _ _ _ _ _ _ c.in_default-along-2.ensures
+    (past _ _ _ _ _ _ c.in_default-along-3.ensures
+    (past _ _ _ _ _ _ c.in_default-combined.ensures
+    (found _ _ _ _ _ _ c.in-Some-applied.ensures))))))
 
 pub returns : goal.returns
 returns c =
-    past_left _ _ _ _ (not_at_once _ _ _ _ c.cell_at.ensures c.if-cell_at-eq1.false c.cell_at-2.ensures c.if-cell_at-eq-TRUTH.false) c.stronger-weaken.ensures c.if-weaken-n.false c.whole_with-left.ensures
-    c.if-left-n.false (past_right _ _ _ _ c.whole_with-right.ensures c.if-right-n.false c.from_parts.ensures)
+    all_rules _ _ _ _
+    (past _ _ _ _ _ _ (c.in_default.ensures c.args.marks.now)
+    (past _ _ _ _ _ _ c.in_default-along.ensures
+    (past _ _ _ _ _ _ c.in_default-along-2.ensures
+    (past _ _ _ _ _ _ c.in_default-along-3.ensures
+    (past _ _ _ _ _ _ c.in_default-combined.ensures
+    (past _ _ _ _ _ _ c.in_default-applied.ensures c.attached.ensures))))))

@@ -1,15 +1,27 @@
--- `wording::needs_brackets` meets its contract: each test that leads to a return settles the definition's case.
-use Rattle.wording.proofs.Small.{bare_none, rule_gets, around_rules_none, around_parts}
+-- `wording::needs_brackets` meets its contract: a formula's kind says whether it is a rule and whether it has parts.
+use mathlib.Core.Path.{refl, sym, ◌∙◌}
+use Rattle.wording.specs.Waiting.{needs_brackets}
+use Rattle.wording.proofs.Named.{rule_kind, rule_parts, and_parts}
 use Rattle.wording.proofs.needs_brackets.Goals as goal
 
-pub returns-then-how-eq-BARE : goal.returns-then-how-eq-BARE
-returns-then-how-eq-BARE c = λ x e. bare_none _ _ x e c.if-how-eq-BARE.true
+pub returns-in-Never : goal.returns-in-Never
+unfolding needs_brackets
+returns-in-Never c = λ x e. rw c.in-Never.is refl
 
-pub returns-then-kind-eq-IMPLIES : goal.returns-then-kind-eq-IMPLIES
-returns-then-kind-eq-IMPLIES c = λ x e. rule_gets _ _ x e c.if-how-eq-BARE.false c.if-kind-eq-IMPLIES.true
+pub returns-in-AroundRules : goal.returns-in-AroundRules
+unfolding needs_brackets
+returns-in-AroundRules c = λ x e. rw (c.in-AroundRules.is, c.eq.ensures, e) (rule_kind x)
 
-pub returns-then-how-eq-AROUND_A_RULE : goal.returns-then-how-eq-AROUND_A_RULE
-returns-then-how-eq-AROUND_A_RULE c = λ x e. around_rules_none _ _ x e c.if-kind-eq-IMPLIES.false c.if-how-eq-AROUND_A_RULE.true
+pub returns-then-eq : goal.returns-then-eq
+unfolding needs_brackets
+returns-then-eq c = λ x e.
+    let here = c.eq-in-AroundParts.ensures in
+    let is_and = rw e at here in
+    rw (c.in-AroundParts.is, c.if-eq.true) (and_parts x (sym is_and ∙ c.if-eq.true))
 
-pub returns : goal.returns
-returns c = λ x e. around_parts _ _ x e c.if-how-eq-BARE.false c.if-kind-eq-IMPLIES.false c.if-how-eq-AROUND_A_RULE.false
+pub returns-else-eq : goal.returns-else-eq
+unfolding needs_brackets
+returns-else-eq c = λ x e.
+    let here = c.eq-in-AroundParts.ensures in
+    let is_and = rw e at here in
+    rw (c.in-AroundParts.is, c.eq-else-eq.ensures, e) (rule_parts x (sym is_and ∙ c.if-eq.false))

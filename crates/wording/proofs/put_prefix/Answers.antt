@@ -1,20 +1,11 @@
 -- `wording::put_prefix` meets its contract: from the outermost place inwards, each quotation is put.
 use native.Mathlib.Omega.{arith}
 use Rattle.writing.proofs.Placing.{some_ends}
-use Rattle.wording.proofs.Quoted.{prefix_begins, prefix_turns, prefix_over, place_quoting}
+use Rattle.wording.proofs.Quoted.{prefix_begins, prefix_turns, place_quoting}
 use Rattle.wording.proofs.put_prefix.Goals as goal
 
 pub loop-k-init : goal.loop-k-init
 loop-k-init c = prefix_begins _ _ _ _ _ _ _
-
-pub overflow_sub-k : goal.overflow_sub-k
-overflow_sub-k c = omega arith
-
-pub offset_bounds-places-k : goal.offset_bounds-places-k
-offset_bounds-places-k c = let within = c.loop-k.invariant.within in let few = c.requires.0.few in omega arith
-
-pub bounds-places-k : goal.bounds-places-k
-bounds-places-k c = let within = c.loop-k.invariant.within in let few = c.requires.0.few in omega arith
 
 pub put_quotation-end-requires : goal.put_quotation-end-requires
 put_quotation-end-requires c =
@@ -22,14 +13,7 @@ put_quotation-end-requires c =
     let inv = c.loop-k.invariant in
     (place_quoting _ _ _ _ _ _ _ (omega (arith, pre.0.few, pre.0.full)) inv c.loop-k-test.true pre.1, (some_ends inv.begun pre.2).0)
 
-pub loop-k-smaller : goal.loop-k-smaller
-loop-k-smaller c = let more = c.loop-k-test.true in omega arith
-
 pub loop-k-preserved : goal.loop-k-preserved
 loop-k-preserved c =
     let pre = c.requires in
-    let inv = c.loop-k.invariant in
-    prefix_turns _ _ _ _ _ _ _ (omega (arith, pre.0.few, pre.0.full)) inv c.loop-k-test.true pre.2 c.put_quotation-end.ensures
-
-pub returns : goal.returns
-returns c = let none = c.loop-k-test.false in prefix_over _ _ _ _ _ _ _ c.loop-k.invariant (omega arith)
+    prefix_turns _ _ _ _ _ _ _ (omega (arith, pre.0.few, pre.0.full)) c.loop-k.invariant c.loop-k-test.true pre.2 c.put_quotation-end.ensures

@@ -1,10 +1,11 @@
 use Rattle.nodes.specs.Nodes.{nodes_of}
-use Rattle.wording.specs.Waiting.{waiting_weight}
+use Rattle.wording.specs.declared.Item.TheVariants as Of
+use Rattle.wording.specs.Waiting.{item_text, waiting_weight}
 use Rattle.wording.proofs.Going.{Going}
 use Rattle.wording.proofs.put_words.Given as goal
 
-abbrev pub invariant-loop-top : goal.invariant-loop-top
-invariant-loop-top l = Going l.file l.initial.out l.at l.initial.hows l.initial.whos l.initial.top l.out l.hows l.whos l.top l.end
+abbrev pub invariant-loop-next : goal.invariant-loop-next
+invariant-loop-next l = Going l.policy.file.now (item_text (nodes_of l.policy.file.now) (Of.Formula l.fn.around l.node)) l.initial.out l.at l.waiting l.out l.end
 
-abbrev pub decreases-loop-top : goal.decreases-loop-top
-decreases-loop-top l = waiting_weight (nodes_of l.file) l.hows l.whos l.top
+abbrev pub decreases-loop-next : goal.decreases-loop-next
+decreases-loop-next l = waiting_weight (nodes_of l.policy.file.now) l.waiting

@@ -1,53 +1,55 @@
 -- `wording::write_item` meets its contract: a word is put, a formula as far as it begins, in its brackets.
 use native.Mathlib.Omega.{arith}
-use mathlib.Core.Path.{◌∙◌}
+use mathlib.Core.Path.{◌∙◌, ap}
 use Rattle.infon.specs.Bytes.{bytes}
-use Rattle.prefix.proofs.Shown.{table_long}
-use Rattle.wording.proofs.Itemed.{word_written, below, item_row, item_kind, bare_ready, bare_written, closing_room, closed_ready, closed_written}
+use Rattle.nodes.specs.Columns.{kind_by}
+use Rattle.prefix.proofs.Shown.{count_few, kind_cell}
+use Rattle.wording.proofs.Itemed.{word_written, bare_ready, bare_written, closing_room, closed_ready, closed_written}
 use Rattle.wording.proofs.write_item.Goals as goal
 
-pub put_between-behind-requires : goal.put_between-behind-requires
-put_between-behind-requires c = c.requires.1.inside
+pub returns-in-Word : goal.returns-in-Word
+returns-in-Word c =
+    let ready = rw c.in-Word.is at c.requires.ready in
+    rw c.in-Word.is (word_written _ c.in-Word.word ready c.put_between.ensures)
 
-pub returns-then-item-ge-A_WORD : goal.returns-then-item-ge-A_WORD
-returns-then-item-ge-A_WORD c =
-    let pre = c.requires in
-    word_written _ _ _ _ pre.0 pre.1 (omega (arith, c.if-item-ge-A_WORD.true)) c.put_between-behind.ensures
-
-pub cell_at-requires : goal.cell_at-requires
-cell_at-requires c =
-    let pre = c.requires in record { inside = (omega arith, item_row _ _ _ _ pre.0 pre.1 (omega (arith, c.if-item-ge-A_WORD.false))); whole = table_long _ _ pre.1.held }
+pub kind_at-requires : goal.kind_at-requires
+kind_at-requires c =
+    let below = rw c.in-Formula.is at c.requires.there in
+    omega (arith, below, count_few _ _ c.args.policy.held)
 
 pub write_node-requires : goal.write_node-requires
 write_node-requires c =
-    let pre = c.requires in
-    let low = c.if-item-ge-A_WORD.false in
-    (below _ _ _ _ pre.0 pre.1 (omega arith), bare_ready _ _ _ _ pre.0 pre.1 (omega arith))
+    let below = rw c.in-Formula.is at c.requires.there in
+    let ready = rw c.in-Formula.is at c.requires.ready in
+    (rw c.args.policy.all below, bare_ready _ c.in-Formula.node below c.in-Formula.around ready)
 
 pub returns-then-not-needs_brackets : goal.returns-then-not-needs_brackets
 returns-then-not-needs_brackets c =
-    let pre = c.requires in
-    let low = c.if-item-ge-A_WORD.false in
-    let kind = c.cell_at.ensures ∙ item_kind _ _ _ _ pre.0 pre.1 (omega arith) in
-    bare_written _ _ _ _ pre.0 pre.1 (omega arith) c.needs_brackets.result (c.if-not-needs_brackets.true) (c.needs_brackets.ensures _ kind) c.write_node.ensures
+    let below = rw c.in-Formula.is at c.requires.there in
+    let ready = rw c.in-Formula.is at c.requires.ready in
+    let kind = c.kind_at.ensures ∙ ap kind_by (kind_cell _ _ c.args.policy.held c.in-Formula.node below) in
+    rw c.in-Formula.is
+    (bare_written _ c.in-Formula.node below c.in-Formula.around ready (c.needs_brackets.ensures _ kind) c.if-not-needs_brackets.true c.write_node.ensures)
 
-pub wait-closed-requires : goal.wait-closed-requires
-wait-closed-requires c =
-    let pre = c.requires in
-    closing_room _ _ _ _ pre.0 pre.1 (omega (arith, c.if-item-ge-A_WORD.false))
+pub push-requires : goal.push-requires
+push-requires c =
+    let below = rw c.in-Formula.is at c.requires.there in
+    let ready = rw c.in-Formula.is at c.requires.ready in
+    closing_room _ c.in-Formula.node below c.in-Formula.around ready
 
-pub write_node-requires-2 : goal.write_node-requires-2
+pub write_node-requires-in-Formula : goal.write_node-requires-in-Formula
 unfolding bytes
-write_node-requires-2 c =
-    let pre = c.requires in
-    let low = c.if-item-ge-A_WORD.false in
-    (below _ _ _ _ pre.0 pre.1 (omega arith), closed_ready _ _ _ _ pre.0 pre.1 (omega arith) c.put_some-inside.ensures c.wait-closed.ensures)
+write_node-requires-in-Formula c =
+    let below = rw c.in-Formula.is at c.requires.there in
+    let ready = rw c.in-Formula.is at c.requires.ready in
+    (rw c.args.policy.all below, closed_ready _ c.in-Formula.node below c.in-Formula.around ready c.put_some-inside.ensures c.push.ensures)
 
-pub returns : goal.returns
+pub returns-else-not-needs_brackets : goal.returns-else-not-needs_brackets
 unfolding bytes
-returns c =
-    let pre = c.requires in
-    let low = c.if-item-ge-A_WORD.false in
-    let kind = c.cell_at.ensures ∙ item_kind _ _ _ _ pre.0 pre.1 (omega arith) in
-    closed_written _ _ _ _ pre.0 pre.1 (omega arith) c.put_some-inside.ensures c.wait-closed.ensures c.needs_brackets.result (c.if-not-needs_brackets.false) (c.needs_brackets.ensures _ kind)
-    c.write_node-2.ensures
+returns-else-not-needs_brackets c =
+    let below = rw c.in-Formula.is at c.requires.there in
+    let ready = rw c.in-Formula.is at c.requires.ready in
+    let kind = c.kind_at.ensures ∙ ap kind_by (kind_cell _ _ c.args.policy.held c.in-Formula.node below) in
+    rw c.in-Formula.is
+    (closed_written _ c.in-Formula.node below c.in-Formula.around ready c.put_some-inside.ensures c.push.ensures (c.needs_brackets.ensures _ kind)
+    c.if-not-needs_brackets.false c.write_node-in-Formula.ensures)

@@ -1,2 +1,0 @@
--- What reading promises.
-pub mod Read
