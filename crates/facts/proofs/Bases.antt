@@ -13,8 +13,10 @@ use Rattle.nodes.proofs.Order.{quoted_inner, quoted_high}
 use Rattle.prefix.proofs.Shown.{kind_cell}
 use Rattle.prefix.proofs.Inside.{kind_quoted, inside_below}
 use Rattle.nodes.specs.declared.Kind.{Kind}
-use Rattle.nodes.specs.Columns.{kind_by}
-use Rattle.facts.specs.OneLine.{quotations, base_of, is_quotation}
+use lib.Dec.{ltb}
+use Rattle.nodes.specs.Columns.{kind_by, number_of}
+use Rattle.nodes.specs.declared.Kind.{Kind}
+use Rattle.facts.specs.OneLine.{quotations, base_of}
 
 -- One quotation further in.
 module _ (row : List Node) (r : ℕ) (h : r < count_nodes row) (q : Quotation) (x : Formula) (e : (node_at row r).what ≡ quoted q x) where
@@ -77,33 +79,33 @@ pub record Inwards (row : List Node) (r i : ℕ) : Type 0 where
   pub base : base_of row i ≡ base_of row r
 
 -- a quotation's kind is 4 or 5
-high_kind : (x : Formula) → is_quotation (kind_by (kind_of x)) ≡ true → 4 ≤ kind_of x
-unfolding is_quotation kind_of
-high_kind True e = absurd (false≢true e)
-high_kind (name a) e = absurd (false≢true e)
-high_kind (and x y) e = absurd (false≢true e)
-high_kind (implies x y) e = absurd (false≢true e)
+high_kind : (x : Formula) → ltb (number_of (kind_by (kind_of x))) 4 ≡ false → 4 ≤ kind_of x
+unfolding kind_of
+high_kind True e = absurd (false≢true (sym e))
+high_kind (name a) e = absurd (false≢true (sym e))
+high_kind (and x y) e = absurd (false≢true (sym e))
+high_kind (implies x y) e = absurd (false≢true (sym e))
 high_kind (quoted q x) e = quoted_high q x
 
-quoted_kind_of : (told : Told) (p : List ℕ) (x : Formula) → is_quotation (kind_by (kind_of (quoted (record { told = told; principal = p }) x))) ≡ true
-unfolding is_quotation kind_of
+quoted_kind_of : (told : Told) (p : List ℕ) (x : Formula) → ltb (number_of (kind_by (kind_of (quoted (record { told = told; principal = p }) x)))) 4 ≡ false
+unfolding kind_of
 quoted_kind_of said p x = refl
 quoted_kind_of put p x = refl
 
-no_quotations : (x : Formula) → is_quotation (kind_by (kind_of x)) ≡ false → quotations x ≡ 0
+no_quotations : (x : Formula) → ltb (number_of (kind_by (kind_of x))) 4 ≡ true → quotations x ≡ 0
 unfolding quotations
 no_quotations True e = refl
 no_quotations (name a) e = refl
 no_quotations (and x y) e = refl
 no_quotations (implies x y) e = refl
-no_quotations (quoted q x) e = absurd (false≢true (sym e ∙ quoted_kind_of q.told q.principal x))
+no_quotations (quoted q x) e = absurd (false≢true (sym (quoted_kind_of q.told q.principal x) ∙ e))
 
 module _ (file t : List ℕ) (held : NodesHeld file t) (r i : ℕ) (so : Inwards (nodes_of file) r i) {found : Bool} {kind : Kind}
-    (e : kind ≡ kind_by (node_cell t node_kind i)) (f : found ≡ is_quotation kind) where
-  found_is : found ≡ is_quotation (kind_by (kind_of (node_at (nodes_of file) i).what))
-  found_is = f ∙ ap is_quotation (e ∙ ap kind_by (kind_cell file t held i so.below))
+    (e : kind ≡ kind_by (node_cell t node_kind i)) (f : found ≡ ltb (number_of kind) 4) where
+  found_is : found ≡ ltb (number_of (kind_by (kind_of (node_at (nodes_of file) i).what))) 4
+  found_is = f ∙ ap (λ (k : Kind). ltb (number_of k) 4) (e ∙ ap kind_by (kind_cell file t held i so.below))
 
-  pub inwards_on : found ≡ true → Inwards (nodes_of file) r (i + 1)
+  pub inwards_on : found ≡ false → Inwards (nodes_of file) r (i + 1)
   inwards_on here =
       let quotation = kind_quoted (node_at (nodes_of file) i).what (high_kind (node_at (nodes_of file) i).what (sym found_is ∙ here)) in
       let next : i + 1 ≡ suc i = omega arith in
@@ -113,7 +115,7 @@ module _ (file t : List ℕ) (held : NodesHeld file t) (r i : ℕ) (so : Inwards
         base = step_base (nodes_of file) i so.below quotation.0 quotation.1.0 quotation.1.1 ∙ so.base;
       })
 
-  pub inwards_over : found ≡ false → i ≡ base_of (nodes_of file) r
+  pub inwards_over : found ≡ true → i ≡ base_of (nodes_of file) r
   unfolding base_of
   inwards_over none_here =
       let none = no_quotations (node_at (nodes_of file) i).what (sym found_is ∙ none_here) in

@@ -1,10 +1,8 @@
 -- One line: the base of its formula, and whether it says a formula as a fact, both by the number of the node that its formula begins with.
-use Rattle.std.specs.Prelude.{ℕ, suc, ◌+◌, ◌<◌, ◌≡◌, Bool, true, false, ◌&&◌, List, [], length, get_or, eqb}
+use Rattle.std.specs.Prelude.{ℕ, suc, ◌+◌, ◌<◌, ◌≡◌, Bool, ◌&&◌, List, [], length, get_or, eqb}
 use Prim.Native.Char.{code}
 use Rattle.infon.specs.Formula.{Formula, True, name, and, implies, quoted, same}
 use Rattle.nodes.specs.Nodes.{Node, node_at, count_nodes, nodes_of}
-use Rattle.nodes.specs.declared.Kind.{Kind}
-use Rattle.nodes.specs.declared.Kind.TheVariants as Of
 use Rattle.prefix.specs.Told.{ToldBy}
 
 -- how many quotations a formula begins with; the base behind those that node r begins with
@@ -17,15 +15,6 @@ quotations (quoted q x) = suc (quotations x)
 
 unfoldable pub base_of : List Node → ℕ → ℕ
 base_of row r = r + quotations (node_at row r).what
-
--- the kinds of quotations
-unfoldable pub is_quotation : Kind → Bool
-is_quotation Of.True = false
-is_quotation Of.Name = false
-is_quotation Of.And = false
-is_quotation Of.Implies = false
-is_quotation Of.Said = true
-is_quotation Of.Put = true
 
 -- the letter of the line is `H`, and the formula that begins at node r is the same
 unfoldable pub fact_at : List ℕ → ℕ → Formula → Bool

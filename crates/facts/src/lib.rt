@@ -7,17 +7,10 @@ ghost use Rattle.infon.specs.Policy.{entries_of};
 ghost use Rattle.nodes.specs.Nodes.{nodes_of};
 ghost use Rattle.prefix.specs.Told.{ToldBy};
 ghost use Rattle.facts.specs.Facts.{fact_line, Askable};
-ghost use Rattle.facts.specs.OneLine.{is_quotation, base_of, fact_at, LineAsked};
+ghost use Rattle.facts.specs.OneLine.{base_of, fact_at, LineAsked};
 
-use nodes::{Column, Kind, Policy, cell_at, kind_at};
-
-// Whether a kind is that of a quotation.
-#[tactic(auto, unfolding(crate::specs::OneLine::is_quotation))]
-fn is_quotation(kind: Kind) -> bool
-    ensures { result ≡ is_quotation kind }
-{
-    kind == Kind::Said || kind == Kind::Put
-}
+use columns::is_base;
+use nodes::{Column, Policy, cell_at, kind_at};
 
 // The base behind the quotations that node r begins with. (A range up to it has no end that is reached.)
 fn base_of(policy: Policy, r: usize) -> usize
@@ -25,7 +18,7 @@ fn base_of(policy: Policy, r: usize) -> usize
     ensures { result ≡ base_of (nodes_of policy.entry.file.now) r }
 {
     let mut i = r;
-    while is_quotation(kind_at(policy.nodes, i)) {
+    while !is_base(kind_at(policy.nodes, i)) {
         i += 1;
     }
     i

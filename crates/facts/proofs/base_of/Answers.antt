@@ -12,7 +12,7 @@ loop-i-smaller c = omega (arith, c.loop-i.invariant.below, count_few _ _ c.args.
 
 pub loop-i-preserved : goal.loop-i-preserved
 loop-i-preserved c =
-    inwards_on _ _ c.args.policy.held _ _ c.loop-i.invariant c.kind_at.ensures c.is_quotation.ensures c.loop-i-test.true
+    inwards_on _ _ c.args.policy.held _ _ c.loop-i.invariant c.kind_at.ensures c.is_base.ensures c.loop-i-test.true
 
 pub returns : goal.returns
-returns c = inwards_over _ _ c.args.policy.held _ _ c.loop-i.invariant c.kind_at.ensures c.is_quotation.ensures c.loop-i-test.false
+returns c = inwards_over _ _ c.args.policy.held _ _ c.loop-i.invariant c.kind_at.ensures c.is_base.ensures c.loop-i-test.false
