@@ -27,7 +27,8 @@ pub enum Column {
     Base,
 }
 
-// The kinds that the rules ask for are a prefix over `T`, over `+` and over `>`; a name is none of them.
+// The kinds that the rules ask for are a prefix over `T`, over `+` and over `>`; a name is none of them. (What stands in a cell
+// is compared as the number that it is by the definition `shape_kind`, and 1 for a hypothesis by `flag`.)
 #[derive(Clone, Copy, PartialEq, Eq)]
 pub enum Kind {
     Truth,

@@ -11,7 +11,7 @@ use formulas::Formulas;
 use infon::{RECORD_BYTES, Record, Way};
 use reader::{MARK_HIGH, MARK_LOW, NO_PREMISE, Reader};
 
-// The rule's number, 1 to 8.
+// The rule's number, 1 to 8, as the definition `rule_of` has it.
 #[tactic(auto, unfolding(infon::specs::Journal::rule_of))]
 pub fn rule_of(way: Way) -> u8
     ensures { result ≡ rule_of way }

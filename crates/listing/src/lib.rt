@@ -40,7 +40,7 @@ fn find(keys: &[u16], key: u16) -> Option<usize>
     keys.iter().position(|&k| key == k)
 }
 
-// A formula that was found adds nothing to the list, a new one adds itself.
+// A formula that was found adds nothing to the list, a new one adds itself, and its place is then the list's length.
 fn longer(n: usize, at: usize) -> usize
     requires { n < 65536 }
     ensures { result ≡ cond (ltb at n) n (n + 1) }

@@ -41,7 +41,7 @@ pub enum Kind {
 // Stands for no quotation above: a cell of the table, by its definition `none_above`.
 pub const NONE_ABOVE: usize = 0xFFFF;
 
-// A cell of the table.
+// A cell of the table. (That the row is one is asked in a clause, here and above: its number is what another cell holds, or counts.)
 pub fn cell_at(nodes: &Nodes, column: Column, i: usize) -> usize
     requires { i < node_rows }
     ensures { result ≡ node_cell nodes.now (column_number column) i }
@@ -58,7 +58,7 @@ pub fn set_cell(nodes: &mut Nodes, column: Column, i: usize, value: usize)
     grid::set_cell::<ROWS>(nodes, column as usize, i, value)
 }
 
-// A node's kind.
+// A node's kind. (By match: no derive makes an enum of a number.)
 pub fn kind_at(nodes: &Nodes, i: usize) -> Kind
     requires { i < node_rows }
     ensures { result ≡ kind_by (node_cell nodes.now node_kind i) }

@@ -32,7 +32,8 @@ pub fn check(file: &[u8]) -> Result<(), Refusal>
     too_many(file)
 }
 
-// The table of the nodes of a file that passed codes 1 to 3. The count of nodes comes back.
+// The table of the nodes of a file that passed codes 1 to 3. The count of nodes comes back. (What the codes said stands in clauses, and
+// the count beside the table, until it holds the nodes: then they are a `Policy`.)
 pub fn fill(file: &[u8], nodes: &mut Nodes) -> usize
     requires well_formed { code2 file.now ≡ passed }
     requires few { code3 (entries_of file.now) ≡ passed }

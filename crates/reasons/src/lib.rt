@@ -50,7 +50,8 @@ fn wanted_at(journal: &[u8], i: usize, wanted: &[u8]) -> Option<Record>
     }
 }
 
-// Goes from the last of a journal's first records to the first, has wanted what each wanted one rests on, and counts these.
+// Goes from the last of a journal's first records to the first, has wanted what each wanted one rests on, and counts these. (How many
+// there are stands beside the journal: C's buffer may hold more.)
 pub fn choose(journal: &[u8], kept: usize, wanted: &mut [u8]) -> usize
     requires { record_bytes * kept ≤ length journal.now }
     ensures { Chooses journal.now kept wanted.old result wanted.new }

@@ -10,8 +10,8 @@ ghost use Rattle.formulas.specs.Tests.{kind_at, left_at, right_at, gives_in, is_
 use formulas::{Column, Formulas, Kind};
 use infon::{Record, Way};
 
-// Whether a number is a listed one, and marked as recorded. (The marks are a row beside the list and no value with it: `grow`
-// and `add_next` of `growth` take them as a row that may be longer, and write them between two looks.)
+// Whether a number is a listed one, and marked as recorded: 1, by the definition `is_marked`. (The marks are a row beside the list and no
+// value with it: `grow` and `add_next` of `growth` take them as a row that may be longer, and write them between two looks.)
 pub fn is_marked(list: Formulas, marks: &[u8], i: usize) -> bool
     requires { list.n ≤ length marks.now }
     ensures { result ≡ is_marked list.entry.n marks.now i }

@@ -24,7 +24,7 @@ pub struct Key {
     pub puts: usize,
 }
 
-// The line on which the record for a number stands.
+// The line on which the record for a number stands; 0 where none does, as the definition of a reason has it.
 fn place_of(places: &[u16], p: usize) -> usize
     ensures { result ≡ get_or places.now p 0 }
 {
