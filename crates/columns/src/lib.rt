@@ -8,7 +8,7 @@ ghost use Rattle.formulas.specs.Columns.{column_number};
 ghost use Rattle.formulas.specs.Table.{table_cells};
 ghost use Rattle.columns.specs.Columns.{base_column, inward_kind, form_number, kind_column, put_column, left_column, right_column, bottom_column, column_of, with_column, filled, IsForm, Owners};
 
-use formulas::{Column, NO_NUMBER, Table};
+use formulas::{Column, NO_NUMBER};
 use nodes::{Kind, Policy, cell_at, kind_at};
 
 // How many forms a node has at most: two to the number of places.
@@ -21,7 +21,7 @@ pub const FORMS: usize = nodes::ROWS * STRIDE;
 pub const ROOM: usize = formulas::ROWS + STRIDE;
 
 // The columns in the order of their numbers.
-const ALL: [Column; 7] = [
+const ALL: [Column; formulas::COLUMNS] = [
     Column::Kind,
     Column::Puts,
     Column::Left,
@@ -43,11 +43,11 @@ pub struct Forms<'a> {
     ghost owned: { Owners policy.file.now policy.nodes.now owners.now n },
 }
 
-// A base is a node that is not a quotation.
+// A base is a node that is not a quotation: the quotations' kinds come last.
 pub fn is_base(kind: Kind) -> bool
     ensures { result ≡ ltb (number_of kind) 4 }
 {
-    !matches!(kind, Kind::Said | Kind::Put)
+    (kind as usize) < Kind::Said as usize
 }
 
 // A leaf has no parts.
@@ -168,7 +168,8 @@ fn cell_of(forms: Forms, column: Column, i: usize) -> u16
 }
 
 // Fills one column at the first n formulas.
-fn fill_column(forms: Forms, column: Column, table: &mut Table)
+fn fill_column(forms: Forms, column: Column, table: &mut [u16])
+    requires { table_cells ≤ length table.old }
     ensures { table.new ≡ with_column (column_number column) (column_of forms.entry.policy.nodes.now forms.entry.cand.now forms.entry.keys.now forms.entry.owners.now (column_number column)) forms.entry.n table.old }
 {
     for i in 0..forms.n {
@@ -177,7 +178,8 @@ fn fill_column(forms: Forms, column: Column, table: &mut Table)
 }
 
 // All columns at the first n formulas, none of them marked as a hypothesis.
-pub fn fill_columns(forms: Forms, table: &mut Table)
+pub fn fill_columns(forms: Forms, table: &mut [u16])
+    requires { table_cells ≤ length table.old }
     ensures { table.new ≡ filled forms.entry.policy.nodes.now forms.entry.cand.now forms.entry.keys.now forms.entry.owners.now forms.entry.n table.old }
 {
     for column in ALL {

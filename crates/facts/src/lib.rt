@@ -10,7 +10,7 @@ ghost use Rattle.facts.specs.Facts.{fact_line, Askable};
 ghost use Rattle.facts.specs.OneLine.{base_of, fact_at, LineAsked};
 
 use columns::is_base;
-use nodes::{Column, Policy, cell_at, kind_at};
+use nodes::{Column, Held, Policy, cell_at, kind_at};
 
 // The base behind the quotations that node r begins with. (A range up to it has no end that is reached.)
 fn base_of(policy: Policy, r: usize) -> usize
@@ -34,7 +34,11 @@ fn is_fact(policy: Policy, r: usize, b: usize, puts: usize) -> bool
         return false;
     }
     let i = base_of(policy, r);
-    if !twins::are_twins(policy, i, b) {
+    let held = Held {
+        file: policy.file,
+        nodes: policy.nodes,
+    };
+    if !twins::are_twins(held, i, b) {
         return false;
     }
     prefix::puts(prefix::prefix_of(policy.nodes, i)) == puts

@@ -6,7 +6,9 @@ ghost use Rattle.std.specs.Prelude.{◌≡◌, ◌<◌, ◌≤◌, length};
 ghost use Rattle.formulas.specs.Table.{table_rows, table_cells, cell, with_cell};
 ghost use Rattle.formulas.specs.Columns.{column_number};
 
-// How many rows each column has, and how many cells there are in all.
+// How many columns the table has, how many rows each has, and how many cells there are in all.
+pub const COLUMNS: usize = 7;
+
 pub const ROWS: usize = 4096;
 
 pub const CELLS: usize = 28672;

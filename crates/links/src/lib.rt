@@ -12,10 +12,11 @@ use formulas::{Column, Formulas, NO_NUMBER};
 // How many cells a column's chains have: as many first places, by number, and next places, by place.
 const CHAIN: usize = 2 * formulas::ROWS;
 
+// How far behind a column's first places its next places are.
+pub const NEXTS: usize = formulas::ROWS;
+
 // How many cells the links have.
 pub const CELLS: usize = 24576;
-
-pub type Links = [u16; CELLS];
 
 // What the formulas of a chain share: the left part, the right part, or the form with put at every place.
 #[derive(Clone, Copy, PartialEq, Eq)]
@@ -84,12 +85,13 @@ impl<'a> Search<'a> {
         requires { (p < self.list.n) × (cell self.list.table.now (chain_column chain) p < self.list.n) }
         ensures { FoundFrom self.entry.list.table.now (chain_column chain) (cell self.entry.list.table.now (chain_column chain) p) self.entry.list.n (suc p) result }
     {
-        self.place(chain.start() + formulas::ROWS + p)
+        self.place(chain.start() + NEXTS + p)
     }
 }
 
 // Says of each listed number that it stands nowhere yet.
-fn clear_firsts(list: Formulas, links: &mut Links, chain: Chain)
+fn clear_firsts(list: Formulas, links: &mut [u16], chain: Chain)
+    requires { link_cells ≤ length links.old }
     ensures { links.new ≡ none_first (chain_start chain) list.entry.n links.old }
 {
     let at = chain.start();
@@ -99,20 +101,21 @@ fn clear_firsts(list: Formulas, links: &mut Links, chain: Chain)
 }
 
 // Puts a place in front of the chain of the number that stands there.
-fn link_place(list: Formulas, links: &mut Links, chain: Chain, i: usize)
-    requires { i < list.n }
+fn link_place(list: Formulas, links: &mut [u16], chain: Chain, i: usize)
+    requires { (i < list.n) × (link_cells ≤ length links.old) }
     ensures { links.new ≡ link_place list.entry.table.now (chain_column chain) list.entry.n (chain_start chain) i links.old }
 {
     let at = chain.start();
     let x = list.at(chain.column(), i);
     if x < list.n {
-        links[at + formulas::ROWS + i] = links[at + x];
+        links[at + NEXTS + i] = links[at + x];
         links[at + x] = i as u16;
     }
 }
 
 // Fills the chains of one column.
-fn fill(list: Formulas, links: &mut Links, chain: Chain)
+fn fill(list: Formulas, links: &mut [u16], chain: Chain)
+    requires { link_cells ≤ length links.old }
     ensures { links.new ≡ chain_in list.entry.table.now (chain_column chain) list.entry.n (chain_start chain) links.old }
 {
     clear_firsts(list, links, chain);
@@ -122,7 +125,8 @@ fn fill(list: Formulas, links: &mut Links, chain: Chain)
 }
 
 // Fills the chains of formulas with the same left part, the same right part and the same bottom.
-pub fn link(list: Formulas, links: &mut Links)
+pub fn link(list: Formulas, links: &mut [u16])
+    requires { link_cells ≤ length links.old }
     ensures { links.new ≡ linked_in list.entry.table.now list.entry.n links.old }
 {
     fill(list, links, Chain::Left);

@@ -1,15 +1,15 @@
 -- The list is whole: what the buffers hold then, and what a refusal tells.
 -- Assumes nothing.
-use Prim.Native.Nat.{ℕ, zero, suc, ◌≤◌, ◌<◌}
+use Prim.Native.Nat.{ℕ, zero, suc, ◌*◌, ◌≤◌, ◌<◌}
 use native.Mathlib.Omega.{arith}
 use mathlib.Core.Path.{◌≡◌, refl, ◌∙◌, ap, ap₂, subst}
 use mathlib.Core.Logic.{inl}
 use mathlib.Core.Bool.{true}
 use mathlib.Core.List.{List}
-use lib.ListN.{length}
+use lib.ListN.{length, replicate, length-replicate}
 use Rattle.std.proofs.lemmas.Bool.{and_from}
 use Rattle.infon.specs.Formula.{Formula}
-use Rattle.std.specs.Prelude.{Ok, Err}
+use Rattle.std.specs.Prelude.{Result, Ok, Err}
 use Rattle.infon.specs.declared.Refusal.{Refusal}
 use Rattle.infon.specs.Codes.{Verdict, passed}
 use Rattle.infon.specs.Policy.{Entry, entries_of, hypotheses_of}
@@ -17,10 +17,10 @@ use Rattle.infon.specs.Listing.{list_of, most_listed, code5}
 use Rattle.infon.specs.Rules.{Shape, truth, primitive, conjunction, implication, shape_of, numbered}
 use Rattle.infon.proofs.Prefixes.{mem_listed}
 use Rattle.infon.proofs.Listed.{PartsIn, list_shape_closed, numbered_mem, numbered_injective, code5_passed}
-use Rattle.nodes.specs.Nodes.{Node, count_nodes, nodes_of, NodesHeld}
+use Rattle.nodes.specs.Nodes.{Node, node_rows, count_nodes, nodes_of, NodesHeld}
 use Rattle.formulas.specs.Table.{cell_of, table_rows, table_columns, rule_columns, table_cells, cell, parts_listed}
 use Rattle.formulas.specs.Tests.{hypothesis_at, base_at}
-use Rattle.columns.specs.Columns.{nothing, column_of, filled, IsOwner, Owners}
+use Rattle.columns.specs.Columns.{stride, nothing, column_of, filled, IsOwner, Owners}
 use Rattle.columns.proofs.Columnwise.{filled_length, filled_cell, filled_others}
 use Rattle.listing.specs.Forms.{Form, Owned, Placed, Entered}
 use Rattle.listing.specs.Lines.{LinesReady, Clear, HypothesesMarked, QueriesNumbered}
@@ -166,3 +166,43 @@ module _ (file t : List ℕ) (held : NodesHeld file t) (table queries cand keys 
             table_is = rw code_passed table_filled;
             queries_are = rw code_passed numbered-are.numbers;
           }
+
+-- The tables of a list to which no code 5 applies: as long as they have to be, and whole.
+pub record WholeList (file t : List ℕ) (count : ℕ) (table queries cand keys owners : List ℕ) (n : ℕ) : Type 0 where
+  pub held : NodesHeld file t
+  pub all : count ≡ count_nodes (nodes_of file)
+  pub table_size : length table ≡ table_cells
+  pub queries_long : node_rows ≤ length queries
+  pub cand_long : node_rows * stride ≤ length cand
+  pub keys_long : table_rows ≤ length keys
+  pub owners_long : table_rows ≤ length owners
+  pub listed : NodesListed file (Ok n) cand keys owners
+  pub passes : code5 (entries_of file) ≡ passed
+  pub whole : n ≡ length (list_of (entries_of file))
+
+still_long : (n : ℕ) (s : List ℕ) → length s ≡ length {A = ℕ} (replicate n 0) → n ≤ length s
+still_long n s e = omega (arith, length-replicate {A = ℕ} n 0)
+
+-- where the nodes were listed with no refusal, the list is whole
+pub whole_list : {file t : List ℕ} {count : ℕ} {table queries : List ℕ} {counted : Result ℕ Refusal} {n : ℕ}
+    → NodesHeld file t → count ≡ count_nodes (nodes_of file) → length table ≡ table_cells → node_rows ≤ length queries
+    → (cand : List ℕ) → length cand ≡ length {A = ℕ} (replicate 16384 0)
+    → (keys : List ℕ) → length keys ≡ length {A = ℕ} (replicate 4112 0)
+    → (owners : List ℕ) → length owners ≡ length {A = ℕ} (replicate 4112 0)
+    → NodesListed file counted cand keys owners → counted ≡ Ok n
+    → WholeList file t count table queries cand keys owners n
+whole_list {file} {n = n} held all table_size queries_long cand c keys k owners o listed counted_is =
+    let listed_all : NodesListed file (Ok n) cand keys owners = subst (λ (r : Result ℕ Refusal). NodesListed file r cand keys owners) counted_is listed in
+    let known = whole_by_lem (length (list_of (entries_of file))) n (code5 (entries_of file)) listed_all.answer in
+    record {
+      held = held;
+      all = all;
+      table_size = table_size;
+      queries_long = queries_long;
+      cand_long = still_long 16384 cand c;
+      keys_long = omega (arith, still_long 4112 keys k);
+      owners_long = omega (arith, still_long 4112 owners o);
+      listed = listed_all;
+      passes = known.0;
+      whole = known.1;
+    }

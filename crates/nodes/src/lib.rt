@@ -82,3 +82,11 @@ pub struct Policy<'a> {
     ghost held: { NodesHeld file.now nodes.now },
     ghost all: { count ≡ count_nodes (nodes_of file.now) },
 }
+
+// A policy file with the table that holds its nodes; who needs to know how many there are as well takes a `Policy`.
+#[derive(Clone, Copy)]
+pub struct Held<'a> {
+    pub file: &'a [u8],
+    pub nodes: &'a Nodes,
+    ghost held: { NodesHeld file.now nodes.now },
+}

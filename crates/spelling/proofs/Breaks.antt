@@ -3,7 +3,7 @@
 use Prim.Native.Nat.{ℕ, ◌+◌, ◌-◌, ◌<◌, ◌≤◌}
 use native.Mathlib.Omega.{arith}
 use mathlib.Core.Path.{◌≡◌, refl, sym, ◌∙◌, ap}
-use mathlib.Core.Bool.{Bool, true, false, not}
+use mathlib.Core.Bool.{Bool, true, false, not, ◌||◌}
 use mathlib.Core.List.{List, ◌∷◌}
 use lib.ListN.{length, get_or, take, drop, drop_of_length-le, length-drop}
 use lib.Seq.{take_all, get_or-drop}
@@ -56,3 +56,8 @@ module _ (text : List ℕ) (at : ℕ) where
   pub parsed_none : length text ≤ at → parsed_at text at ≡ None
   unfolding parsed_at word_at alike bytes is_name every
   parsed_none h = rw (drop_of_length-le text h)
+
+-- A test or nothing is the test.
+pub or_false : (t : Bool) → t || false ≡ t
+or_false true = refl
+or_false false = refl

@@ -44,12 +44,17 @@ impl From<Parsed> for Kind {
 
 const LONGEST_NAME: usize = 16;
 
-// A character of a name: a to z, 0 to 9 and hyphen.
+// A character of a name: a to z, 0 to 9 and hyphen. (Letters by a test of their own: most are, and each byte of a name is read in three
+// passes.)
 #[tactic(auto, unfolding(infon::specs::Formula::is_name_byte))]
 fn is_name_byte(b: u8) -> bool
     ensures { result ≡ is_name_byte b }
 {
-    matches!(b, b'a'..=b'z' | b'0'..=b'9' | b'-')
+    if b'a' <= b {
+        b <= b'z'
+    } else {
+        matches!(b, b'0'..=b'9' | b'-')
+    }
 }
 
 // Every byte is such a character.
@@ -138,10 +143,8 @@ pub fn node_at(text: &[u8], at: usize) -> Option<Parsed>
         Some(Parsed::And)
     } else if are_alike(token, b">") {
         Some(Parsed::Implies)
-    } else if are_alike(token, b"S") {
-        quotation(text, at + 1, true)
-    } else if are_alike(token, b"P") {
-        quotation(text, at + 1, false)
+    } else if are_alike(token, b"S") || are_alike(token, b"P") {
+        quotation(text, at + 1, are_alike(token, b"S"))
     } else if is_name(token) {
         Some(Parsed::Name {
             end: at + token.len(),

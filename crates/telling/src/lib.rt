@@ -15,7 +15,7 @@ ghost use Rattle.telling.specs.Shelf.{Shelf, Nexts};
 
 use formulas::{Column, Formulas};
 use infon::{Record, Way};
-use nodes::Policy;
+use nodes::{Held, Policy};
 
 // A formula by the node of its base and by its put places.
 #[derive(Clone, Copy)]
@@ -125,7 +125,11 @@ fn put_record(
     let dotted = writing::put_some(b". ", out, counted);
     let reasoned = put_reason(line, places, way, out, dotted);
     let parted = writing::put_some(b": ", out, reasoned);
-    let told = wording::put_formula(policy, key.node, key.puts, out, parted);
+    let held = Held {
+        file: policy.file,
+        nodes: policy.nodes,
+    };
+    let told = wording::put_formula(held, key.node, key.puts, out, parted);
     writing::put_some(b"\n", out, told)
 }
 

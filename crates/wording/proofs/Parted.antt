@@ -14,7 +14,7 @@ use Rattle.nodes.specs.declared.Kind.{Kind}
 use Rattle.nodes.specs.declared.Kind.TheVariants as Kinds
 use Rattle.nodes.specs.Columns.{kind_by, number_of}
 use Rattle.nodes.proofs.Order.{nodes_positive, node_within, and_left, and_right, implies_left, implies_right, quoted_inner, quoted_high}
-use Rattle.prefix.proofs.Shown.{end_cell}
+use Rattle.prefix.proofs.Shown.{count_few, end_cell}
 use Rattle.prefix.proofs.Inside.{parts_of, left_below}
 use Rattle.wording.specs.declared.Brackets.TheVariants.{Never, AroundRules, AroundParts}
 use Rattle.wording.specs.declared.Word.TheVariants.{And, Then}
@@ -177,3 +177,8 @@ module _ (file t : List ℕ) (held : NodesHeld file t) (i : ℕ) (h : i < count_
   pub first_below : {kind : Kind} → kind ≡ kind_by (node_cell t node_kind i) → 2 ≤ number_of kind → number_of kind < 4 → i + 1 < count_nodes (nodes_of file)
   first_below e low high =
       rw (add-one i) (left_below (nodes_of file) i h (parts_of (nodes_of file) i h (omega (arith, known file t held i h e)) (omega (arith, known file t held i h e))))
+
+  -- a second part's number is at most the count of the nodes
+  pub second_small : i + 1 < count_nodes (nodes_of file) → {second : ℕ} → second ≡ node_cell t node_end (i + 1) → second ≤ 1024
+  second_small there place =
+      omega (arith, place, end_cell file t held (i + 1) there, node_within (nodes_of file) (i + 1) there, count_few file t held)

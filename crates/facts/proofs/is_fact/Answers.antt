@@ -21,7 +21,7 @@ returns-then-policy-line-ne72 c =
 pub are_twins-requires : goal.are_twins-requires
 are_twins-requires c =
     let pre = c.requires in
-    rw (c.args.policy.all, c.base_of-i.ensures) (base_below _ _ _ _ _ pre, pre.told.below)
+    rw c.base_of-i.ensures (base_below _ _ _ _ _ pre, pre.told.below)
 
 pub returns-then-not-are_twins : goal.returns-then-not-are_twins
 returns-then-not-are_twins c =

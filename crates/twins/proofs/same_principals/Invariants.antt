@@ -5,5 +5,5 @@ use Rattle.twins.proofs.same_principals.Given as goal
 
 abbrev pub invariant-loop-k : goal.invariant-loop-k
 invariant-loop-k l =
-    same_places l.policy.file.now l.policy.nodes.now (drop l.k (take l.p.count l.p.places)) (drop l.k (take l.p.count l.q.places))
-    ≡ same_places l.policy.file.now l.policy.nodes.now (take l.p.count l.p.places) (take l.p.count l.q.places)
+    same_places l.held.file.now l.held.nodes.now (drop l.k (take l.p.count l.p.places)) (drop l.k (take l.p.count l.q.places))
+    ≡ same_places l.held.file.now l.held.nodes.now (take l.p.count l.p.places) (take l.p.count l.q.places)

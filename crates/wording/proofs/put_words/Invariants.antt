@@ -5,7 +5,7 @@ use Rattle.wording.proofs.Going.{Going}
 use Rattle.wording.proofs.put_words.Given as goal
 
 abbrev pub invariant-loop-next : goal.invariant-loop-next
-invariant-loop-next l = Going l.policy.file.now (item_text (nodes_of l.policy.file.now) (Of.Formula l.fn.around l.node)) l.initial.out l.at l.waiting l.out l.end
+invariant-loop-next l = Going l.held.file.now (item_text (nodes_of l.held.file.now) (Of.Formula l.fn.around l.node)) l.initial.out l.at l.waiting l.out l.end
 
 abbrev pub decreases-loop-next : goal.decreases-loop-next
-decreases-loop-next l = waiting_weight (nodes_of l.policy.file.now) l.waiting
+decreases-loop-next l = waiting_weight (nodes_of l.held.file.now) l.waiting

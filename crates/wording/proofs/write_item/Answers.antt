@@ -15,21 +15,22 @@ returns-in-Word c =
 pub kind_at-requires : goal.kind_at-requires
 kind_at-requires c =
     let below = rw c.in-Formula.is at c.requires.there in
-    omega (arith, below, count_few _ _ c.args.policy.held)
+    omega (arith, below, count_few _ _ c.args.held.held)
 
 pub write_node-requires : goal.write_node-requires
 write_node-requires c =
     let below = rw c.in-Formula.is at c.requires.there in
     let ready = rw c.in-Formula.is at c.requires.ready in
-    (rw c.args.policy.all below, bare_ready _ c.in-Formula.node below c.in-Formula.around ready)
+    rw c.from-node.ensures (below, bare_ready _ c.in-Formula.node below c.in-Formula.around ready)
 
 pub returns-then-not-needs_brackets : goal.returns-then-not-needs_brackets
 returns-then-not-needs_brackets c =
     let below = rw c.in-Formula.is at c.requires.there in
     let ready = rw c.in-Formula.is at c.requires.ready in
-    let kind = c.kind_at.ensures ∙ ap kind_by (kind_cell _ _ c.args.policy.held c.in-Formula.node below) in
+    let kind = (rw c.from-node.ensures at c.kind_at.ensures) ∙ ap kind_by (kind_cell _ _ c.args.held.held c.in-Formula.node below) in
+    let written = rw c.from-node.ensures at c.write_node.ensures in
     rw c.in-Formula.is
-    (bare_written _ c.in-Formula.node below c.in-Formula.around ready (c.needs_brackets.ensures _ kind) c.if-not-needs_brackets.true c.write_node.ensures)
+    (bare_written _ c.in-Formula.node below c.in-Formula.around ready (c.needs_brackets.ensures _ kind) c.if-not-needs_brackets.true written)
 
 pub push-requires : goal.push-requires
 push-requires c =
@@ -42,14 +43,15 @@ unfolding bytes
 write_node-requires-in-Formula c =
     let below = rw c.in-Formula.is at c.requires.there in
     let ready = rw c.in-Formula.is at c.requires.ready in
-    (rw c.args.policy.all below, closed_ready _ c.in-Formula.node below c.in-Formula.around ready c.put_some-inside.ensures c.push.ensures)
+    rw c.from-node.ensures (below, closed_ready _ c.in-Formula.node below c.in-Formula.around ready c.put_some-inside.ensures c.push.ensures)
 
 pub returns-else-not-needs_brackets : goal.returns-else-not-needs_brackets
 unfolding bytes
 returns-else-not-needs_brackets c =
     let below = rw c.in-Formula.is at c.requires.there in
     let ready = rw c.in-Formula.is at c.requires.ready in
-    let kind = c.kind_at.ensures ∙ ap kind_by (kind_cell _ _ c.args.policy.held c.in-Formula.node below) in
+    let kind = (rw c.from-node.ensures at c.kind_at.ensures) ∙ ap kind_by (kind_cell _ _ c.args.held.held c.in-Formula.node below) in
+    let written = rw c.from-node.ensures at c.write_node-in-Formula.ensures in
     rw c.in-Formula.is
     (closed_written _ c.in-Formula.node below c.in-Formula.around ready c.put_some-inside.ensures c.push.ensures (c.needs_brackets.ensures _ kind)
-    c.if-not-needs_brackets.false c.write_node-in-Formula.ensures)
+    c.if-not-needs_brackets.false written)

@@ -1,0 +1,2 @@
+-- What an answer of reading says of the buffer.
+pub mod Within
